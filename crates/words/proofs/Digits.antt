@@ -1,12 +1,11 @@
 -- The fields of a word: fields that fit their places are read back from the word made of them, and a word is made of the fields read from it.
-use mathlib.Core.Path.{_≡_, refl, sym, _∙_, ap}
+use mathlib.Core.Path.{_≡_}
 use mathlib.Core.Bool.{Bool, true, false, cond}
-use Prim.Native.Nat.{ℕ, _≤_, _<_, _+_, _*_, _/_, _%_, _^_}
+use Prim.Native.Nat.{ℕ, _≤_, _<_, _+_, _*_, _/_, _^_}
 use native.Mathlib.Omega.{arith}
-use lib.Dec.{eqb}
 use borrow.Author.Needs.{needs}
 use Rattle.words.specs.declared.instr.Guard.{Guard}
-use Rattle.words.specs.Layout.{bits, top, bottom, guardIn, negateBit}
+use Rattle.words.specs.Layout.{bits, top, bottom, negateBit}
 
 bit-small : (b : Bool) → cond b (2 ^ 2) 0 ≤ 4
 bit-small true = search needs

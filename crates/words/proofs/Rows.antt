@@ -1,6 +1,6 @@
 -- The table, row by row: each operation is found by its own opcode and modifier, and these fit their fields.
 use mathlib.Core.Path.{_≡_, refl}
-use Prim.Native.Nat.{ℕ, _<_}
+use Prim.Native.Nat.{_<_}
 use lib.Dec.{T, ltb, ltb→lt}
 use Rattle.words.specs.declared.instr.TwoOp.{TwoOp}
 use Rattle.words.specs.declared.instr.CompareOp.{CompareOp}

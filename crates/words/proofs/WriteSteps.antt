@@ -1,18 +1,17 @@
 -- Writing by the numbers that the code has: one or two words stored at the start of a list are what `writeOf` says.
-use mathlib.Core.Path.{_≡_, refl, sym, _∙_, ap}
-use mathlib.Core.Bool.{Bool, true, false}
+use mathlib.Core.Path.{_≡_, sym, _∙_, ap}
+use mathlib.Core.Bool.{true, false}
 use mathlib.Core.List.{List, [], _∷_}
-use Prim.Native.Nat.{ℕ, suc, _≤_, _<_}
+use Prim.Native.Nat.{ℕ, _≤_, _<_}
 use native.Mathlib.Omega.{arith}
 use lib.ListN.{length, getD, set}
 use borrow.Author.Tests.{le-leb, lt-leb}
 use Rattle.words.specs.declared.instr.Instr.{Instr}
-use Rattle.words.specs.declared.forms.Second.{Second}
 use Rattle.words.specs.declared.writing.WriteAnswer.{WriteAnswer}
 use Rattle.words.specs.Forms.{limitsOf, sizeOf, valid}
 use Rattle.words.specs.Layout.{firstWord, restOf, wordsOf}
 use Rattle.words.specs.Refusals.{Rule}
-use Rattle.words.specs.Writing.{Written, written, unwritten, put, writeOf}
+use Rattle.words.specs.Writing.{written, unwritten, put, writeOf}
 use Rattle.words.proofs.Sizes.{words-length, rest-one, rest-two}
 
 put-one : (out : List ℕ) (h : ℕ) → 1 ≤ length out → written (WriteAnswer.Wrote 1) (set out 0 h) ≡ put (h ∷ []) out

@@ -1,5 +1,5 @@
 -- Reading one instruction: it tests 5 for no word at all, then 4, 5, 6, each at the instruction's first word.
-use mathlib.Core.Bool.{Bool, cond, _&&_}
+use mathlib.Core.Bool.{cond, _&&_}
 use mathlib.Core.List.{List, [], _∷_}
 use Prim.Native.Nat.{ℕ, suc}
 use lib.Dec.{ltb}

@@ -1,5 +1,5 @@
 -- Writing one instruction: it tests 12, then 13. Output past the result stays as lent, and a refusal changes nothing.
-use mathlib.Core.Bool.{Bool, cond}
+use mathlib.Core.Bool.{cond}
 use mathlib.Core.List.{List, _++_}
 use Prim.Native.Nat.{ℕ}
 use lib.Dec.{leb}

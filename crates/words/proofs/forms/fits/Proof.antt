@@ -1,10 +1,6 @@
 use borrow.Author.Needs.{needs}
 use Rattle.words.proofs.forms.fits.Statement.{statement}
 use Rattle.words.proofs.forms.fits.Tie as tie
-use Rattle.words.proofs.forms.fits.Reads as reads
-use Rattle.words.proofs.forms.fits.Lts as lts
-use Rattle.words.proofs.forms.guard_fits.Reads as guard-fits-reads
-use Rattle.words.proofs.forms.second_fits.Reads as second-fits-reads
 
 guard-fits-requires : tie.Need-guard-fits-requires
 guard-fits-requires c κs = search needs

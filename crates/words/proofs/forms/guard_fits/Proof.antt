@@ -1,9 +1,6 @@
 use borrow.Author.Needs.{needs}
 use Rattle.words.proofs.forms.guard_fits.Statement.{statement}
 use Rattle.words.proofs.forms.guard_fits.Tie as tie
-use Rattle.words.proofs.forms.guard_fits.Reads as reads
-use Rattle.words.proofs.forms.guard_fits.Lts as lts
-use Rattle.words.proofs.forms.need_met.Reads as need-met-reads
 
 need-met-requires : tie.Need-need-met-requires
 need-met-requires c κs = search needs

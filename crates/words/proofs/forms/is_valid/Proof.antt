@@ -4,10 +4,6 @@ use Rattle.words.specs.Forms.{fits}
 use borrow.Author.Needs.{needs}
 use Rattle.words.proofs.forms.is_valid.Statement.{statement}
 use Rattle.words.proofs.forms.is_valid.Tie as tie
-use Rattle.words.proofs.forms.is_valid.Reads as reads
-use Rattle.words.proofs.forms.is_valid.Lts as lts
-use Rattle.words.proofs.forms.fits.Reads as fits-reads
-use Rattle.words.proofs.forms.limits_of.Reads as limits-of-reads
 
 limits-of-requires : tie.Need-limits-of-requires
 limits-of-requires c κs = search needs

@@ -5,10 +5,6 @@ use Rattle.words.specs.Forms.{form}
 use borrow.Author.Needs.{needs}
 use Rattle.words.proofs.forms.limits_of.Statement.{statement}
 use Rattle.words.proofs.forms.limits_of.Tie as tie
-use Rattle.words.proofs.forms.limits_of.Reads as reads
-use Rattle.words.proofs.forms.limits_of.Lts as lts
-use Rattle.words.proofs.forms.form.Reads as form-reads
-use Rattle.words.proofs.forms.need_of.Reads as need-of-reads
 
 enum-told : tie.Need-enum-told
 enum-told c = search needs

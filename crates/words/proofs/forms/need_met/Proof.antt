@@ -1,8 +1,6 @@
 use borrow.Author.Needs.{needs}
 use Rattle.words.proofs.forms.need_met.Statement.{statement}
 use Rattle.words.proofs.forms.need_met.Tie as tie
-use Rattle.words.proofs.forms.need_met.Reads as reads
-use Rattle.words.proofs.forms.need_met.Lts as lts
 
 enum-told : tie.Need-enum-told
 enum-told c = search needs

@@ -1,8 +1,6 @@
 use borrow.Author.Needs.{needs}
 use Rattle.words.proofs.forms.second_fits.Statement.{statement}
 use Rattle.words.proofs.forms.second_fits.Tie as tie
-use Rattle.words.proofs.forms.second_fits.Reads as reads
-use Rattle.words.proofs.forms.second_fits.Lts as lts
 
 enum-told : tie.Need-enum-told
 enum-told c = search needs

@@ -1,9 +1,6 @@
 use borrow.Author.Needs.{needs}
 use Rattle.words.proofs.reading.instr_in.Statement.{statement}
 use Rattle.words.proofs.reading.instr_in.Tie as tie
-use Rattle.words.proofs.reading.instr_in.Reads as reads
-use Rattle.words.proofs.reading.instr_in.Lts as lts
-use Rattle.words.proofs.reading.guard_in.Reads as guard-in-reads
 
 guard-in-requires : tie.Need-guard-in-requires
 guard-in-requires c κs = search needs

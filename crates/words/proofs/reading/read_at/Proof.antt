@@ -12,13 +12,6 @@ use Rattle.words.proofs.ReadSteps.{past, missing, short, whole}
 use borrow.Author.Needs.{needs}
 use Rattle.words.proofs.reading.read_at.Statement.{statement}
 use Rattle.words.proofs.reading.read_at.Tie as tie
-use Rattle.words.proofs.reading.read_at.Reads as reads
-use Rattle.words.proofs.reading.read_at.Lts as lts
-use Rattle.words.proofs.forms.limits_of.Reads as limits-of-reads
-use Rattle.words.proofs.forms.size_of.Reads as size-of-reads
-use Rattle.words.proofs.reading.read_fields.Reads as read-fields-reads
-use Rattle.words.proofs.reading.word_at.Reads as word-at-reads
-use Rattle.words.proofs.table.op_of.Reads as op-of-reads
 
 -- the operation, and what is known of it once its size is
 abbrev op-at : tie.After-size-of → Op

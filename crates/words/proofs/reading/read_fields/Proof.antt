@@ -7,12 +7,6 @@ use Rattle.words.proofs.ReadSteps.{fields-are}
 use borrow.Author.Needs.{needs}
 use Rattle.words.proofs.reading.read_fields.Statement.{statement}
 use Rattle.words.proofs.reading.read_fields.Tie as tie
-use Rattle.words.proofs.reading.read_fields.Reads as reads
-use Rattle.words.proofs.reading.read_fields.Lts as lts
-use Rattle.words.proofs.forms.fits.Reads as fits-reads
-use Rattle.words.proofs.forms.size_of.Reads as size-of-reads
-use Rattle.words.proofs.reading.instr_in.Reads as instr-in-reads
-use Rattle.words.proofs.reading.spare_zero.Reads as spare-zero-reads
 
 -- what is known once the tests are made
 fields-of :

@@ -1,8 +1,6 @@
 use borrow.Author.Needs.{needs}
 use Rattle.words.proofs.reading.second_spare.Statement.{statement}
 use Rattle.words.proofs.reading.second_spare.Tie as tie
-use Rattle.words.proofs.reading.second_spare.Reads as reads
-use Rattle.words.proofs.reading.second_spare.Lts as lts
 
 enum-told : tie.Need-enum-told
 enum-told c = search needs

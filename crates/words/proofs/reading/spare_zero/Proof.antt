@@ -1,9 +1,6 @@
 use borrow.Author.Needs.{needs}
 use Rattle.words.proofs.reading.spare_zero.Statement.{statement}
 use Rattle.words.proofs.reading.spare_zero.Tie as tie
-use Rattle.words.proofs.reading.spare_zero.Reads as reads
-use Rattle.words.proofs.reading.spare_zero.Lts as lts
-use Rattle.words.proofs.reading.second_spare.Reads as second-spare-reads
 
 second-spare-requires : tie.Need-second-spare-requires
 second-spare-requires c κs = search needs

@@ -3,8 +3,6 @@ use lib.ListN.{List·getD-eq-default}
 use borrow.Author.Needs.{needs}
 use Rattle.words.proofs.reading.word_at.Statement.{statement}
 use Rattle.words.proofs.reading.word_at.Tie as tie
-use Rattle.words.proofs.reading.word_at.Reads as reads
-use Rattle.words.proofs.reading.word_at.Lts as lts
 
 mul-result : tie.Need-mul-result
 mul-result c = search needs

@@ -4,11 +4,6 @@ use Rattle.words.proofs.Lookup.{named-find, by-opcode, not-listed}
 use borrow.Author.Needs.{needs}
 use Rattle.words.proofs.table.op_of.Statement.{statement}
 use Rattle.words.proofs.table.op_of.Tie as tie
-use Rattle.words.proofs.table.op_of.Reads as reads
-use Rattle.words.proofs.table.op_of.Lts as lts
-use Rattle.words.proofs.table.atomic_op.Reads as atomic-op-reads
-use Rattle.words.proofs.table.control_op.Reads as control-op-reads
-use Rattle.words.proofs.table.plain_op.Reads as plain-op-reads
 
 atomic-op-requires : tie.Need-atomic-op-requires
 atomic-op-requires c κs = search needs

@@ -1,13 +1,6 @@
 use borrow.Author.Needs.{needs}
 use Rattle.words.proofs.table.opcode_of.Statement.{statement}
 use Rattle.words.proofs.table.opcode_of.Tie as tie
-use Rattle.words.proofs.table.opcode_of.Reads as reads
-use Rattle.words.proofs.table.opcode_of.Lts as lts
-use Rattle.words.proofs.table.compare_code.Reads as compare-code-reads
-use Rattle.words.proofs.table.load_code.Reads as load-code-reads
-use Rattle.words.proofs.table.one_code.Reads as one-code-reads
-use Rattle.words.proofs.table.store_code.Reads as store-code-reads
-use Rattle.words.proofs.table.two_code.Reads as two-code-reads
 
 enum-known-op : tie.Need-enum-known-op
 enum-known-op c = search needs

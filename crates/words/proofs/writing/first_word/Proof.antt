@@ -5,11 +5,6 @@ use Rattle.words.proofs.Digits.{negate-small}
 use borrow.Author.Needs.{needs}
 use Rattle.words.proofs.writing.first_word.Statement.{statement}
 use Rattle.words.proofs.writing.first_word.Tie as tie
-use Rattle.words.proofs.writing.first_word.Reads as reads
-use Rattle.words.proofs.writing.first_word.Lts as lts
-use Rattle.words.proofs.table.modifier_of.Reads as modifier-of-reads
-use Rattle.words.proofs.table.opcode_of.Reads as opcode-of-reads
-use Rattle.words.proofs.writing.negate_bit.Reads as negate-bit-reads
 
 -- the opcode leaves the rest of the word free, whatever the fields are
 small : (z : tie.After-negate-bit) → (z .before .before .opcode-of .result < 255) × (z .before .modifier-of .result < 16) × (z .negate-bit .result ≤ 4)

@@ -1,8 +1,6 @@
 use borrow.Author.Needs.{needs}
 use Rattle.words.proofs.writing.second_word.Statement.{statement}
 use Rattle.words.proofs.writing.second_word.Tie as tie
-use Rattle.words.proofs.writing.second_word.Reads as reads
-use Rattle.words.proofs.writing.second_word.Lts as lts
 
 enum-told : tie.Need-enum-told
 enum-told c = search needs

@@ -14,13 +14,6 @@ use Rattle.words.proofs.WriteSteps.{not-valid, no-room, wrote-one, wrot
 use borrow.Author.Needs.{needs}
 use Rattle.words.proofs.writing.write.Statement.{statement}
 use Rattle.words.proofs.writing.write.Tie as tie
-use Rattle.words.proofs.writing.write.Reads as reads
-use Rattle.words.proofs.writing.write.Lts as lts
-use Rattle.words.proofs.forms.is_valid.Reads as is-valid-reads
-use Rattle.words.proofs.forms.limits_of.Reads as limits-of-reads
-use Rattle.words.proofs.forms.size_of.Reads as size-of-reads
-use Rattle.words.proofs.writing.first_word.Reads as first-word-reads
-use Rattle.words.proofs.writing.second_word.Reads as second-word-reads
 
 -- the instruction, and what is known of it once its size is
 abbrev instr-at : tie.After-size-of → Instr
