@@ -1,9 +1,9 @@
 -- What is written reads back: the words of a valid instruction, whatever stands after them, read as that instruction. Word 0 gives its fields
 -- back; word 1 by its three forms, never by operation.
-use mathlib.Core.Path.{_≡_, refl, sym, _∙_, ap}
+use mathlib.Core.Path.{_≡_, refl, sym}
 use mathlib.Core.Bool.{Bool, true, false, cond, _&&_}
-use mathlib.Core.List.{List, [], _∷_, _++_}
-use Prim.Native.Nat.{ℕ, suc, _≤_, _<_, _+_}
+use mathlib.Core.List.{List, _++_}
+use Prim.Native.Nat.{ℕ, suc, _≤_, _<_}
 use native.Mathlib.Omega.{arith}
 use lib.Dec.{eqb, leb}
 use lib.ListN.{length, getD, length-append}
@@ -12,30 +12,15 @@ use Rattle.ground.proofs.Bools.{and-left, and-right}
 use Rattle.words.specs.declared.instr.Op.{Op}
 use Rattle.words.specs.declared.instr.Guard.{Guard}
 use Rattle.words.specs.declared.instr.Instr.{Instr}
-use Rattle.words.specs.declared.table.FoundOp.{FoundOp}
 use Rattle.words.specs.declared.forms.Second.{Second}
 use Rattle.words.specs.declared.reading.ReadAnswer.{ReadAnswer}
-use Rattle.words.specs.Table.{opcodeOf, modifierOf, opOf}
+use Rattle.words.specs.Table.{opcodeOf, modifierOf}
 use Rattle.words.specs.Forms.{limitsOf, sizeOf, secondFits, valid}
 use Rattle.words.specs.Layout.{bits, top, guardIn, firstWord, instr, instrIn, restOf, secondSpare, spareZero, wordsOf}
-use Rattle.words.specs.Reading.{readFields, readFrom}
+use Rattle.words.specs.Reading.{readFrom}
 use Rattle.words.proofs.Rows.{table}
 use Rattle.words.proofs.Sizes.{words-length}
-use Rattle.words.proofs.Digits.{
-  joined,
-  top-back,
-  rd-back,
-  rs1-back,
-  modifier-back,
-  spare-back,
-  negate-back,
-  pred-back,
-  rs2-back,
-  rs3-back,
-  rs4-back,
-  unused-back,
-  scope-back,
-}
+use Rattle.words.proofs.Digits.{joined, top-back, rd-back, rs1-back, modifier-back, spare-back, negate-back, pred-back, rs2-back, rs3-back, rs4-back, unused-back, scope-back}
 use Rattle.words.proofs.Validity.{SecondSmall, Fields, fields}
 use Rattle.words.proofs.ReadSteps.{fields-are}
 
@@ -87,13 +72,12 @@ first-back i f =
       rs1 = rw e (rs1-back c (i .rd) (i .rs1) m n p (f .rd) (f .rs1) m-fits n-fits (f .pred));
       spare = rw e (spare-back c (i .rd) (i .rs1) m n p (f .rd) (f .rs1) m-fits n-fits (f .pred));
       guard =
-        rw
-        (
-          e,
-          negate-back c (i .rd) (i .rs1) m n p (f .rd) (f .rs1) m-fits n-fits (f .pred),
-          pred-back c (i .rd) (i .rs1) m n p (f .rd) (f .rs1) m-fits n-fits (f .pred),
-          bit-tested (i .guard .negate),
-        );
+          rw (
+            e,
+            negate-back c (i .rd) (i .rs1) m n p (f .rd) (f .rs1) m-fits n-fits (f .pred),
+            pred-back c (i .rd) (i .rs1) m n p (f .rd) (f .rs1) m-fits n-fits (f .pred),
+            bit-tested (i .guard .negate),
+          );
     }
 
 -- word 1 gives its fields back, by form
@@ -102,19 +86,17 @@ instr-back :
     (secondSpare s (getD (restOf s i ++ after) 0 0) ≡ true) × (i ≡ instrIn s (i .op) w (getD (restOf s i ++ after) 0 0))
 instr-back Second.Nothing i w after f fit small =
     let past-rs2 = and-right (eqb (i .rs2) 0) (eqb (i .rs3) 0 && (eqb (i .scope) 0 && eqb (i .number) 0)) fit in
-    let past-rs3 = and-right (eqb (i .rs3) 0) (eqb (i .scope) 0 && eqb (i .number) 0) past-rs2 in
-    (
+    let past-rs3 = and-right (eqb (i .rs3) 0) (eqb (i .scope) 0 && eqb (i .number) 0) past-rs2 in (
       refl,
       same (sym (f .guard)) (sym (f .rd)) (sym (f .rs1)) (eqb-true _ 0 (and-left (eqb (i .rs2) 0) _ fit))
-      (eqb-true _ 0 (and-left (eqb (i .rs3) 0) _ past-rs2)) (eqb-true _ 0 (and-left (eqb (i .scope) 0) _ past-rs3))
-      (eqb-true _ 0 (and-right (eqb (i .scope) 0) _ past-rs3)),
+          (eqb-true _ 0 (and-left (eqb (i .rs3) 0) _ past-rs2)) (eqb-true _ 0 (and-left (eqb (i .scope) 0) _ past-rs3))
+          (eqb-true _ 0 (and-right (eqb (i .scope) 0) _ past-rs3)),
     )
 instr-back Second.Number i w after f fit small =
-    let past-rs2 = and-right (eqb (i .rs2) 0) (eqb (i .rs3) 0 && eqb (i .scope) 0) fit in
-    (
+    let past-rs2 = and-right (eqb (i .rs2) 0) (eqb (i .rs3) 0 && eqb (i .scope) 0) fit in (
       refl,
       same (sym (f .guard)) (sym (f .rd)) (sym (f .rs1)) (eqb-true _ 0 (and-left (eqb (i .rs2) 0) _ fit))
-      (eqb-true _ 0 (and-left (eqb (i .rs3) 0) _ past-rs2)) (eqb-true _ 0 (and-right (eqb (i .rs3) 0) _ past-rs2)) refl,
+          (eqb-true _ 0 (and-left (eqb (i .rs3) 0) _ past-rs2)) (eqb-true _ 0 (and-right (eqb (i .rs3) 0) _ past-rs2)) refl,
     )
 instr-back (Second.Registers x y z) i w after f fit small =
     let past-rs2 = and-right (leb (i .rs2) x) (leb (i .rs3) y && (leb (i .scope) z && eqb (i .number) 0)) fit in
@@ -122,12 +104,11 @@ instr-back (Second.Registers x y z) i w after f fit small =
     let rs3-in : i .rs3 ≤ y = leb-true (i .rs3) y (and-left (leb (i .rs3) y) _ past-rs2) in
     let scope-in : i .scope ≤ z = leb-true (i .scope) z (and-left (leb (i .scope) z) _ past-rs3) in
     let rs3-fits : i .rs3 < 256 = omega (arith, small .1) in
-    let scope-fits : i .scope < 4 = omega (arith, small .2) in
-    (
+    let scope-fits : i .scope < 4 = omega (arith, small .2) in (
       rw (rs4-back (i .rs2) (i .rs3) (i .scope) rs3-fits scope-fits, unused-back (i .rs2) (i .rs3) (i .scope) rs3-fits scope-fits),
       same (sym (f .guard)) (sym (f .rd)) (sym (f .rs1)) (sym (rs2-back (i .rs2) (i .rs3) (i .scope) rs3-fits scope-fits))
-      (sym (rs3-back (i .rs2) (i .rs3) (i .scope) rs3-fits scope-fits)) (sym (scope-back (i .rs2) (i .rs3) (i .scope) rs3-fits scope-fits))
-      (eqb-true _ 0 (and-right (leb (i .scope) z) _ past-rs3)),
+          (sym (rs3-back (i .rs2) (i .rs3) (i .scope) rs3-fits scope-fits)) (sym (scope-back (i .rs2) (i .rs3) (i .scope) rs3-fits scope-fits))
+          (eqb-true _ 0 (and-right (leb (i .scope) z) _ past-rs3)),
     )
 
 pub read-written : (i : Instr) → valid i ≡ true → (after : List ℕ) (at : ℕ) → readFrom (wordsOf i ++ after) at ≡ ReadAnswer.Read i (length (wordsOf i))

@@ -3,7 +3,7 @@
 use mathlib.Core.Path.{_≡_, refl, sym, _∙_, ap}
 use mathlib.Core.Bool.{Bool, true, false, cond, _&&_}
 use mathlib.Core.List.{List, [], _∷_, _++_}
-use Prim.Native.Nat.{ℕ, suc, _≤_, _<_, _+_, _*_, _^_}
+use Prim.Native.Nat.{ℕ, suc, _≤_, _<_, _*_, _^_}
 use native.Mathlib.Omega.{arith}
 use lib.Dec.{eqb, ltb}
 use lib.ListN.{length, getD, drop}
@@ -16,7 +16,7 @@ use Rattle.words.specs.declared.forms.Second.{Second}
 use Rattle.words.specs.declared.reading.ReadAnswer.{ReadAnswer}
 use Rattle.words.specs.Table.{opcodeOf, modifierOf, opOf}
 use Rattle.words.specs.Forms.{limitsOf, sizeOf, fits, valid}
-use Rattle.words.specs.Layout.{bits, top, guardIn, negateBit, firstWord, instrIn, restOf, secondSpare, spareZero, wordsOf}
+use Rattle.words.specs.Layout.{bits, top, firstWord, instrIn, restOf, secondSpare, spareZero, wordsOf}
 use Rattle.words.specs.Refusals.{Rule}
 use Rattle.words.specs.Reading.{refused, readFields, readOp, readFrom}
 use Rattle.words.proofs.Lookup.{op-opcode, op-modifier}

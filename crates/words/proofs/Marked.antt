@@ -1,7 +1,6 @@
 -- The marked table, T1 to T6: every case's words read as it says, by computing.
 use mathlib.Core.Path.{_≡_, refl}
-use mathlib.Core.List.{List, map}
-use Rattle.words.specs.declared.reading.ReadAnswer.{ReadAnswer}
+use mathlib.Core.List.{map}
 use Rattle.words.specs.Marked.{WordCase, wordCases}
 use Rattle.words.specs.Reading.{readAt}
 

@@ -1,7 +1,7 @@
 -- What a valid instruction's fields are known to be: each fits its place in the words.
-use mathlib.Core.Path.{_≡_, refl}
-use mathlib.Core.Bool.{Bool, true, not, _&&_}
-use Prim.Native.Nat.{ℕ, _≤_, _<_}
+use mathlib.Core.Path.{_≡_}
+use mathlib.Core.Bool.{true, not, _&&_}
+use Prim.Native.Nat.{_≤_, _<_}
 use native.Mathlib.Omega.{arith}
 use lib.Dec.{eqb, ltb, leb}
 use borrow.Author.Needs.{needs}
@@ -11,7 +11,7 @@ use Rattle.words.specs.declared.instr.Op.{Op}
 use Rattle.words.specs.declared.instr.Instr.{Instr}
 use Rattle.words.specs.declared.forms.Second.{Second}
 use Rattle.words.specs.declared.forms.Limits.{Limits}
-use Rattle.words.specs.Forms.{limitsOf, needMet, guardFits, secondFits, fits, valid}
+use Rattle.words.specs.Forms.{limitsOf, needMet, guardFits, secondFits, valid}
 
 -- the limits of word 1 are within its fields
 abbrev pub SecondSmall : Second → Type 0
@@ -56,8 +56,8 @@ fields i ok =
     let within : Small l = small (i .op) in
     record {
       pred =
-        ltb-true (i .guard .pred) 4
-        (and-left (ltb (i .guard .pred) 4) (not (eqb (i .guard .pred) 0 && i .guard .negate) && needMet (l .need) (i .guard .pred)) pred-fits);
+          ltb-true (i .guard .pred) 4
+          (and-left (ltb (i .guard .pred) 4) (not (eqb (i .guard .pred) 0 && i .guard .negate) && needMet (l .need) (i .guard .pred)) pred-fits);
       rd = omega (arith, within .0);
       rs1 = omega (arith, within .1);
       second = and-right (leb (i .rs1) (l .rs1)) second rs1-fits;

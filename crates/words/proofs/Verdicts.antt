@@ -1,31 +1,29 @@
 -- What reading and writing answer, by the cases of their tests: each answer beside the facts that it was given for.
-use mathlib.Core.Path.{_≡_, refl, sym, _∙_, ap, subst}
+use mathlib.Core.Path.{_≡_, refl, _∙_}
 use mathlib.Core.Bool.{Bool, true, false, cond, _&&_}
-use mathlib.Core.List.{List, [], _∷_, _++_}
-use mathlib.Core.Logic.{_↔_, _⊎_, inl, inr}
-use Prim.Native.Nat.{ℕ, suc, _≤_, _<_, _+_, _-_, _^_}
+use mathlib.Core.List.{List, _++_}
+use mathlib.Core.Logic.{inl, inr}
+use Prim.Native.Nat.{ℕ, _≤_, _<_, _+_, _-_}
 use native.Mathlib.Omega.{arith}
 use lib.Dec.{ltb, leb}
-use lib.ListN.{length, getD, take, drop, take-append-drop, length-take, length-drop}
-use lib.Seq.{take-append-seam}
-use borrow.Author.Tests.{leb-true, leb-false, ltb-true, ltb-false, le-leb, lt-leb}
-use Rattle.ground.proofs.Bools.{never}
+use lib.ListN.{length, getD, drop}
+use borrow.Author.Tests.{leb-true, leb-false, ltb-true, ltb-false}
 use Rattle.words.specs.declared.instr.Op.{Op}
 use Rattle.words.specs.declared.instr.Instr.{Instr}
 use Rattle.words.specs.declared.table.FoundOp.{FoundOp}
 use Rattle.words.specs.declared.forms.Second.{Second}
 use Rattle.words.specs.declared.reading.ReadAnswer.{ReadAnswer}
 use Rattle.words.specs.declared.writing.WriteAnswer.{WriteAnswer}
-use Rattle.words.specs.Table.{opcodeOf, modifierOf, opOf}
-use Rattle.words.specs.Forms.{limitsOf, sizeOf, fits, valid}
+use Rattle.words.specs.Table.{opOf}
+use Rattle.words.specs.Forms.{limitsOf, fits, valid}
 use Rattle.words.specs.Layout.{bits, top, instrIn, spareZero, wordsOf}
-use Rattle.words.specs.Refusals.{Rule, numberOf}
+use Rattle.words.specs.Refusals.{Rule}
 use Rattle.words.specs.Rules.{Stands, Names, size, Breaks}
-use Rattle.words.specs.Reading.{refused, readFields, readFrom, readAt}
-use Rattle.words.specs.Writing.{Written, written, unwritten, put, writeOf}
+use Rattle.words.specs.Reading.{refused, readAt}
+use Rattle.words.specs.Writing.{written, unwritten, writeOf}
 use Rattle.words.proofs.Lookup.{op-opcode, op-modifier}
 use Rattle.words.proofs.Rows.{table}
-use Rattle.words.proofs.Sizes.{size-positive, words-length}
+use Rattle.words.proofs.Sizes.{size-positive}
 use Rattle.words.proofs.ReadSteps.{past, missing, short, whole}
 use Rattle.words.proofs.Standing.{stood, standing}
 
