@@ -16,7 +16,7 @@ use Rattle.words.specs.declared.forms.Second.{Second}
 use Rattle.words.specs.declared.reading.ReadAnswer.{ReadAnswer}
 use Rattle.words.specs.Table.{opcodeOf, modifierOf}
 use Rattle.words.specs.Forms.{limitsOf, sizeOf, secondFits, valid}
-use Rattle.words.specs.Layout.{bits, top, guardIn, firstWord, instr, instrIn, restOf, secondSpare, spareZero, wordsOf}
+use Rattle.words.specs.Layout.{guardIn, firstWord, instr, instrIn, restOf, secondSpare, spareZero, wordsOf, opcodeIn, rdIn, rs1In, modifierIn, bit3In}
 use Rattle.words.specs.Reading.{readFrom}
 use Rattle.words.proofs.Rows.{table}
 use Rattle.words.proofs.Sizes.{words-length}
@@ -49,11 +49,11 @@ same a b c d e f g = rw (a, b, c, d, e, f, g)
 
 -- the fields that word 0 of an instruction is read as
 record First (i : Instr) (w : ℕ) : Type 0 where
-  opcode : top w ≡ opcodeOf (i .op)
-  modifier : bits 7 4 w ≡ modifierOf (i .op)
-  rd : bits 23 16 w ≡ i .rd
-  rs1 : bits 15 8 w ≡ i .rs1
-  spare : bits 3 3 w ≡ 0
+  opcode : opcodeIn w ≡ opcodeOf (i .op)
+  modifier : modifierIn w ≡ modifierOf (i .op)
+  rd : rdIn w ≡ i .rd
+  rs1 : rs1In w ≡ i .rs1
+  spare : bit3In w ≡ 0
   guard : guardIn w ≡ i .guard
 
 first-back : (i : Instr) → Fields i → First i (firstWord i)

@@ -10,7 +10,7 @@ use Rattle.words.specs.declared.table.FoundOp.{FoundOp}
 use Rattle.words.specs.declared.reading.ReadAnswer.{ReadAnswer}
 use Rattle.words.specs.Table.{opOf}
 use Rattle.words.specs.Forms.{limitsOf, sizeOf, fits}
-use Rattle.words.specs.Layout.{bits, top, instrIn, spareZero}
+use Rattle.words.specs.Layout.{instrIn, spareZero, opcodeIn, modifierIn}
 use Rattle.words.specs.Refusals.{Rule, numberOf}
 
 -- a rule is broken by the instruction at a place
@@ -32,7 +32,7 @@ readOp (FoundOp.Carried o) w ws at =
 -- the instruction that a list of words starts with
 abbrev pub readFrom : List ℕ → ℕ → ReadAnswer
 readFrom [] at = refused Rule.second at
-readFrom (w ∷ ws) at = readOp (opOf (top w) (bits 7 4 w)) w ws at
+readFrom (w ∷ ws) at = readOp (opOf (opcodeIn w) (modifierIn w)) w ws at
 
 -- the instruction whose first word stands at a place
 abbrev pub readAt : List ℕ → ℕ → ReadAnswer

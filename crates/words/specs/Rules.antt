@@ -9,7 +9,7 @@ use Rattle.words.specs.declared.instr.Op.{Op}
 use Rattle.words.specs.declared.instr.Instr.{Instr}
 use Rattle.words.specs.Table.{opcodeOf, modifierOf}
 use Rattle.words.specs.Forms.{limitsOf, sizeOf, valid}
-use Rattle.words.specs.Layout.{bits, top, wordsOf}
+use Rattle.words.specs.Layout.{wordsOf, opcodeIn, modifierIn}
 use Rattle.words.specs.Refusals.{Rule}
 
 -- a valid instruction's words stand at a place
@@ -18,7 +18,7 @@ Stands ws at i = (valid i ≡ true) × (take (length (wordsOf i)) (drop at ws) �
 
 -- the word at a place has the operation's opcode and modifier
 abbrev pub Names : List ℕ → ℕ → Op → Type 0
-Names ws at o = (top (getD ws at 0) ≡ opcodeOf o) × (bits 7 4 (getD ws at 0) ≡ modifierOf o)
+Names ws at o = (opcodeIn (getD ws at 0) ≡ opcodeOf o) × (modifierIn (getD ws at 0) ≡ modifierOf o)
 
 -- how many words an operation has
 abbrev pub size : Op → ℕ
