@@ -15,10 +15,10 @@ use Rattle.words.specs.declared.forms.Second.{Second}
 use Rattle.words.specs.declared.reading.ReadAnswer.{ReadAnswer}
 use Rattle.words.specs.declared.writing.WriteAnswer.{WriteAnswer}
 use Rattle.words.specs.Table.{opOf}
-use Rattle.words.specs.Forms.{limitsOf, fits, valid}
+use Rattle.words.specs.Forms.{limitsOf, size, fits, valid}
 use Rattle.words.specs.Layout.{instrIn, spareZero, wordsOf, opcodeIn, modifierIn}
 use Rattle.words.specs.Refusals.{Rule}
-use Rattle.words.specs.Rules.{Stands, Names, size, Breaks}
+use Rattle.words.specs.Rules.{Stands, Names, Breaks}
 use Rattle.words.specs.Reading.{refused, readAt}
 use Rattle.words.specs.Writing.{written, unwritten, writeOf}
 use Rattle.words.proofs.Lookup.{op-opcode, op-modifier}
@@ -27,6 +27,7 @@ use Rattle.words.proofs.Sizes.{size-positive}
 use Rattle.words.proofs.ReadSteps.{past, missing, short, whole}
 use Rattle.words.proofs.Standing.{stood, standing}
 
+-- READING, at a place; w is the word there
 module _ (ws : List ℕ) (at : ℕ) where
   abbrev w : ℕ
   w = getD ws at 0
@@ -115,6 +116,8 @@ verdict ws at = first (leb (length ws) at) refl
     first : (b : Bool) → leb (length ws) at ≡ b → Verdict ws at
     first true e = broken Rule.second (inl (leb-true _ _ e)) (past ws at (leb-true _ _ e))
     first false e = looked (leb-false _ _ e) (opOf (opcodeIn (getD ws at 0)) (modifierIn (getD ws at 0))) refl
+
+-- WRITING
 
 -- every instruction and output has one of these
 pub data Outcome (i : Instr) (out : List ℕ) : Type 0 where
