@@ -1,3 +1,4 @@
+-- The fields of word 0 are those of `headed`, with the guard's answer put in.
 use borrow.Author.Needs.{needs}
 use Rattle.words.proofs.reading.headed.Statement.{statement}
 use Rattle.words.proofs.reading.headed.Tie as tie

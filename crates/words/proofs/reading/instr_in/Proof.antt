@@ -1,3 +1,4 @@
+-- The instruction of both words, arm by arm: one for each of the three forms of word 1.
 use borrow.Author.Needs.{needs}
 use Rattle.words.proofs.reading.instr_in.Statement.{statement}
 use Rattle.words.proofs.reading.instr_in.Tie as tie

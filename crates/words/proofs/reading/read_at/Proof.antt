@@ -1,3 +1,4 @@
+-- Reading at a place: each of the four answers is that of `readAt` by the steps of ReadSteps, from what the tests before it told.
 use mathlib.Core.Path.{_≡_, sym, ap, _∙_}
 use mathlib.Core.List.{List}
 use Prim.Native.Nat.{ℕ, _<_}
