@@ -16,9 +16,16 @@ use Rattle.ground.proofs.Bools.{never, and-left, and-right}
 use Rattle.arith.specs.Arith.{signed, register}
 use Rattle.arith.proofs.Registers.{Read}
 
+-- the registers of the least signed number and of -1
+abbrev least : ℕ
+least = 0x80000000
+
+abbrev minusOne : ℕ
+minusOne = 0xFFFFFFFF
+
 -- the test for the one quotient that does not fit
 abbrev pub overflowing : ℕ → ℕ → Bool
-overflowing a b = eqb a 0x80000000 && eqb b 0xFFFFFFFF
+overflowing a b = eqb a least && eqb b minusOne
 
 -- ---- by zero
 
@@ -38,14 +45,14 @@ rest-by-zero a b f e = rw e (sym (ap register (rem-zero (signed a)) ∙ ofZ-toZ 
 
 -- ---- the overflowing quotient, and its remainder
 
-pub overflow : (a b : ℕ) → overflowing a b ≡ true → 0x80000000 ≡ register (quotZ (signed a) (signed b))
+pub overflow : (a b : ℕ) → overflowing a b ≡ true → least ≡ register (quotZ (signed a) (signed b))
 overflow a b e =
-    rw (eqb-true a 0x80000000 (and-left (eqb a 0x80000000) (eqb b 0xFFFFFFFF) e), eqb-true b 0xFFFFFFFF (and-right (eqb a 0x80000000) (eqb b 0xFFFFFFFF) e))
+    rw (eqb-true a least (and-left (eqb a least) (eqb b minusOne) e), eqb-true b minusOne (and-right (eqb a least) (eqb b minusOne) e))
     refl
 
 pub rest-of-overflow : (a b : ℕ) → overflowing a b ≡ true → 0 ≡ register (remZ (signed a) (signed b))
 rest-of-overflow a b e =
-    rw (eqb-true a 0x80000000 (and-left (eqb a 0x80000000) (eqb b 0xFFFFFFFF) e), eqb-true b 0xFFFFFFFF (and-right (eqb a 0x80000000) (eqb b 0xFFFFFFFF) e))
+    rw (eqb-true a least (and-left (eqb a least) (eqb b minusOne) e), eqb-true b minusOne (and-right (eqb a least) (eqb b minusOne) e))
     refl
 
 -- ---- every other quotient fits
@@ -68,8 +75,8 @@ quot-fits (pos m) (negsuc n) f g =
 quot-fits (negsuc m) (pos n) f g = record { sfits = omega (arith, f .sfits, mag-neg (suc m / n) {H = m} (div-le-self (suc m) n)) }
 quot-fits (negsuc m) (negsuc n) f g = record { sfits = quot-small m n (f .sfits) (λ p q. g (ap negsuc q) (ap negsuc p)) }
 
-not-overflowing : (a b : ℕ) → overflowing a b ≡ false → a ≡ 0x80000000 → b ≡ 0xFFFFFFFF → ⊥
-not-overflowing a b e p q = never (sym e ∙ rw (eq-eqb a 0x80000000 p, eq-eqb b 0xFFFFFFFF q) refl)
+not-overflowing : (a b : ℕ) → overflowing a b ≡ false → a ≡ least → b ≡ minusOne → ⊥
+not-overflowing a b e p q = never (sym e ∙ rw (eq-eqb a least p, eq-eqb b minusOne q) refl)
 
 pub quotient-fits : (a b : ℕ) → Fits w32 a → Fits w32 b → overflowing a b ≡ false → SFits w32 (quotZ (signed a) (signed b))
 quotient-fits a b f g e =

@@ -1,17 +1,13 @@
-// Quotients and remainders. By zero the quotient is 0 and the remainder the dividend.
+// Quotients and remainders. By zero the quotient is 0 and the remainder the dividend. One signed quotient, of the least number by -1,
+// is no signed number: it is handled apart.
 ghost use mathlib.Core.Path.{_≡_};
-ghost use mathlib.Core.Bool.{_&&_};
-ghost use lib.Dec.{eqb};
 ghost use Rattle.arith.specs.Arith as arith;
 ghost use Rattle.arith.specs.Arith.{twoOf};
+use crate::signed::LEAST;
+use crate::signed::MINUS_ONE;
 use crate::signed::to_register;
 use crate::signed::to_signed;
 use words::instr::TwoOp;
-
-// The least signed number, and -1: the one quotient that no register holds as a signed number.
-const LEAST: u32 = 0x8000_0000;
-
-const MINUS_ONE: u32 = 0xFFFF_FFFF;
 
 // Whether the operation faults on a divisor of zero.
 pub fn divides(op: TwoOp) -> bool

@@ -5,14 +5,20 @@ ghost use Rattle.arith.specs.Arith.{signed, register, twoOf, oneOf};
 use words::instr::OneOp;
 use words::instr::TwoOp;
 
+// The register of the least signed number; a register from it on is negative.
+pub const LEAST: u32 = 0x8000_0000;
+
+// The register of -1, the largest register.
+pub const MINUS_ONE: u32 = 0xFFFF_FFFF;
+
 // A register read as a signed number.
 pub fn to_signed(x: u32) -> i32
     ensures { λ r. ⌜ r ≡ signed x ⌝ }
 {
-    if x < 0x8000_0000 {
+    if x < LEAST {
         x as i32
     } else {
-        -1 - ((0xFFFF_FFFF - x) as i32)
+        -1 - ((MINUS_ONE - x) as i32)
     }
 }
 
@@ -23,7 +29,7 @@ pub fn to_register(z: i32) -> u32
     if 0 <= z {
         z as u32
     } else {
-        0xFFFF_FFFF - ((-1 - z) as u32)
+        MINUS_ONE - ((-1 - z) as u32)
     }
 }
 
@@ -54,9 +60,9 @@ pub fn max(a: u32, b: u32) -> u32
 pub fn abs(a: u32) -> u32
     ensures { λ r. ⌜ r ≡ oneOf OneOp.Abs a ⌝ }
 {
-    if a < 0x8000_0000 {
+    if a < LEAST {
         a
     } else {
-        0xFFFF_FFFF - a + 1
+        MINUS_ONE - a + 1
     }
 }
