@@ -1,0 +1,4 @@
+pub mod Widths
+pub mod Passes
+mod Judging
+mod Reaching

@@ -1,0 +1,11 @@
+use Rattle.blocks.proofs.places.empty.Statement.{statement}
+use Rattle.blocks.proofs.places.empty.Tie as tie
+use Rattle.blocks.proofs.places.empty.Reads as reads
+use Rattle.blocks.proofs.places.empty.Lts as lts
+
+-- src/places.rt:55:1
+returns : tie.Need-returns
+returns c = ?
+
+pub empty-spec : {M : Type 1} → statement M
+empty-spec = tie.close (tie.spec returns)
