@@ -2,3 +2,6 @@ pub mod Widths
 pub mod Passes
 mod Judging
 mod Reaching
+mod Stacks
+mod Advances
+pub mod Walks

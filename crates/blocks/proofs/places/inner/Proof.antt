@@ -1,3 +1,6 @@
+use native.Mathlib.Omega.{arith}
+use mathlib.Core.Path.{_∙_}
+use Rattle.blocks.proofs.Stacks.{none-inside, some-inside}
 use borrow.Author.Needs.{needs}
 use Rattle.blocks.proofs.places.inner.Statement.{statement}
 use Rattle.blocks.proofs.places.inner.Tie as tie
@@ -7,7 +10,7 @@ use Rattle.blocks.proofs.places.inside_from.Reads as inside-from-reads
 
 -- src/places.rt:72:9
 returns : tie.Need-returns
-returns c = ?
+returns c = λ o h. none-inside _ o h (c .if1 .taken)
 
 -- src/places.rt:74:13
 sub-d : tie.Need-sub-d
@@ -27,11 +30,11 @@ inside-from-requires c κs = search needs
 
 -- src/places.rt:77:9
 returns-2 : tie.Need-returns-2
-returns-2 c = ?
+returns-2 c = λ o h. c .inside-from .ensures ∙ some-inside _ o h (c .before .before .before .if1 .left)
 
 -- src/places.rt:67:1
 returns-3 : tie.Need-returns-3
-returns-3 c = ?
+returns-3 c = λ o h. absurd (omega (arith, h .depth-is, h .at-most))
 
 pub inner-spec : {M : Type 1} → statement M
 inner-spec =

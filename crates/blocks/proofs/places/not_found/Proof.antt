@@ -1,3 +1,7 @@
+use mathlib.Core.Bool.{false}
+use mathlib.Core.Path.{ap}
+use mathlib.Core.List.{[]}
+use Rattle.blocks.proofs.Stacks.{holds-is}
 use borrow.Author.Needs.{needs}
 use Rattle.blocks.proofs.places.not_found.Statement.{statement}
 use Rattle.blocks.proofs.places.not_found.Tie as tie
@@ -11,7 +15,7 @@ empty-requires c κs = search needs
 
 -- src/places.rt:199:1
 returns : tie.Need-returns
-returns c = ?
+returns c = ap (λ s. record { found = false; stack = s }) (holds-is _ [] (c .empty .ensures))
 
 pub not-found-spec : {M : Type 1} → statement M
 not-found-spec = tie.close (tie.spec empty-requires returns)

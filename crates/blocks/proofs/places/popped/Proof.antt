@@ -1,3 +1,5 @@
+use native.Mathlib.Omega.{arith}
+use Rattle.blocks.proofs.Stacks.{pop, pop-none, pop-loop, pop-other}
 use borrow.Author.Needs.{needs}
 use Rattle.blocks.proofs.places.popped.Statement.{statement}
 use Rattle.blocks.proofs.places.popped.Tie as tie
@@ -6,7 +8,7 @@ use Rattle.blocks.proofs.places.popped.Lts as lts
 
 -- src/places.rt:107:9
 returns : tie.Need-returns
-returns c = ?
+returns c = λ o h. pop-none _ o h (c .if1 .taken)
 
 -- src/places.rt:109:13
 sub-d : tie.Need-sub-d
@@ -42,15 +44,15 @@ sub-r c = search needs
 
 -- src/places.rt:101:1
 returns-2 : tie.Need-returns-2
-returns-2 c = ?
+returns-2 c = λ o h. pop _ o _ h (c .before .before .before .if1 .left) (pop-loop _ o h (c .before .before .before .if1 .left) (c .before .if2 .taken))
 
 -- src/places.rt:101:1
 returns-3 : tie.Need-returns-3
-returns-3 c = ?
+returns-3 c = λ o h. pop _ o _ h (c .before .before .before .if1 .left) (omega (arith, pop-loop _ o h (c .before .before .before .if1 .left) (c .before .if2 .taken)))
 
 -- src/places.rt:101:1
 returns-4 : tie.Need-returns-4
-returns-4 c = ?
+returns-4 c = λ o h. pop _ o _ h (c .before .before .if1 .left) (pop-other _ o h (c .before .before .if1 .left) (c .if2 .left))
 
 pub popped-spec : {M : Type 1} → statement M
 popped-spec =

@@ -1,3 +1,4 @@
+use Rattle.blocks.proofs.Stacks.{push, one-more, no-more}
 use borrow.Author.Needs.{needs}
 use Rattle.blocks.proofs.places.pushed.Statement.{statement}
 use Rattle.blocks.proofs.places.pushed.Tie as tie
@@ -35,11 +36,11 @@ add-r-2 c = search needs
 
 -- src/places.rt:83:1
 returns : tie.Need-returns
-returns c = ?
+returns c = λ o h. push _ o (c .before .before .args .inside) _ _ _ h (c .before .before .pre .0) (c .before .number .ensures) (one-more (c .before .before .args .inside) _ _ (c .before .number .ensures) (c .if1 .taken))
 
 -- src/places.rt:83:1
 returns-2 : tie.Need-returns-2
-returns-2 c = ?
+returns-2 c = λ o h. push _ o (c .before .before .args .inside) _ _ _ h (c .before .before .pre .0) (c .before .number .ensures) (no-more (c .before .before .args .inside) _ _ (c .before .number .ensures) (c .if1 .left))
 
 pub pushed-spec : {M : Type 1} → statement M
 pushed-spec =

@@ -1,3 +1,4 @@
+use Rattle.blocks.proofs.Stacks.{turn-none, turn}
 use borrow.Author.Needs.{needs}
 use Rattle.blocks.proofs.places.turned_to.Statement.{statement}
 use Rattle.blocks.proofs.places.turned_to.Tie as tie
@@ -7,7 +8,7 @@ use Rattle.blocks.proofs.places.number.Reads as number-reads
 
 -- src/places.rt:131:9
 returns : tie.Need-returns
-returns c = ?
+returns c = λ o n h t. turn-none _ o n _ h t (c .if1 .taken)
 
 -- src/places.rt:133:13
 sub-d : tie.Need-sub-d
@@ -27,7 +28,7 @@ element-write-r c = search needs
 
 -- src/places.rt:125:1
 returns-2 : tie.Need-returns-2
-returns-2 c = ?
+returns-2 c = λ o n h t. turn _ o n _ _ h t (c .before .if1 .left) (c .number .ensures)
 
 pub turned-to-spec : {M : Type 1} → statement M
 turned-to-spec = tie.close (tie.spec returns sub-d number-requires mul-r element-write-r returns-2)
