@@ -5,3 +5,4 @@ mod Reaching
 mod Stacks
 mod Advances
 pub mod Walks
+pub mod Theorems

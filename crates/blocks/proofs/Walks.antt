@@ -65,6 +65,7 @@ module _ (code : Code) (fits : Fits code) (place : ℕ) where
 
 -- the loop's invariant: the walk from the start comes to `at`, with the blocks open that the stack holds
 pub record Walked (code : Code) (place : ℕ) (s : Stack) (at : ℕ) : Type 0 where
+  pub fits : Fits code
   pub blocks : List Open
   pub holds : Holds s blocks
   pub same : openAt code place ≡ walk code place at blocks
@@ -84,7 +85,7 @@ halted : (x : Next) (r : Moved) (f : ℕ → List Open → Found) → Advances x
 halted (over v) r f a e = refl
 halted (go at o) r f a e = never (sym e ∙ a .0)
 
-module _ {code : Code} (fits : Fits code) {place : ℕ} {s : Stack} {at : ℕ} (w : Walked code place s at) where
+module _ {code : Code} {place : ℕ} {s : Stack} {at : ℕ} (w : Walked code place s at) where
   module _ (r : Moved) (lt : at < place) (f : (o : List Open) → Holds s o → Advances (step code at o) r) where
     gone : r .on ≡ true → Onward (step code at (w .blocks)) r
     gone e = onward (step code at (w .blocks)) r (f (w .blocks) (w .holds)) e
@@ -92,24 +93,25 @@ module _ {code : Code} (fits : Fits code) {place : ℕ} {s : Stack} {at : ℕ} (
     pub further : r .on ≡ true → Walked code place (r .stack) (r .at)
     further e =
         record {
+          fits = w .fits;
           blocks = gone e .blocks;
           holds = gone e .holds;
-          same = w .same ∙ walk-on code fits place at (w .blocks) (go (r .at) (gone e .blocks)) (λ q. omega arith) (gone e .goes);
+          same = w .same ∙ walk-on code (w .fits) place at (w .blocks) (go (r .at) (gone e .blocks)) (λ q. omega arith) (gone e .goes);
         }
 
     pub farther : r .on ≡ true → at < r .at
-    farther e = subst (Moves at (code .size)) (gone e .goes) (step-moves code fits at (w .blocks)) .0
+    farther e = subst (Moves at (code .size)) (gone e .goes) (step-moves code (w .fits) at (w .blocks)) .0
 
     pub nothing : r .on ≡ false → shown nowhere ≡ shown (openAt code place)
     nothing e =
         ap shown
         (sym
-        (w .same ∙ walk-on code fits place at (w .blocks) (step code at (w .blocks)) (λ q. omega arith) refl
+        (w .same ∙ walk-on code (w .fits) place at (w .blocks) (step code at (w .blocks)) (λ q. omega arith) refl
         ∙ halted (step code at (w .blocks)) r (walk code place) (f (w .blocks) (w .holds)) e))
 
   pub arrived : at ≡ place → record { found = true; stack = s } ≡ shown (openAt code place)
   arrived e =
-      ap (λ (t : Stack). record { found = true; stack = t }) (holds-is s (w .blocks) (w .holds)) ∙ ap shown (sym (w .same ∙ walk-here code fits place at (w .blocks) e))
+      ap (λ (t : Stack). record { found = true; stack = t }) (holds-is s (w .blocks) (w .holds)) ∙ ap shown (sym (w .same ∙ walk-here code (w .fits) place at (w .blocks) e))
 
   pub missed : place ≤ at → (at ≡ place → ⊥) → shown nowhere ≡ shown (openAt code place)
-  missed h ne = ap shown (sym (w .same ∙ walk-passed code fits place at (w .blocks) (omega arith)))
+  missed h ne = ap shown (sym (w .same ∙ walk-passed code (w .fits) place at (w .blocks) (omega arith)))

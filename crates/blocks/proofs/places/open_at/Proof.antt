@@ -27,7 +27,7 @@ empty-requires c κs = search needs
 
 -- src/places.rt:215:5
 loop-holds : tie.Need-loop-holds Inv-loop μ-loop
-loop-holds c = record { blocks = []; holds = c .empty .ensures; same = refl }
+loop-holds c = record { fits = code-fits (c .before .before .args .code .now) (c .before .before .args .registers); blocks = []; holds = c .empty .ensures; same = refl }
 
 -- src/places.rt:216:13
 advance-requires : tie.Need-advance-requires Inv-loop μ-loop
@@ -35,11 +35,11 @@ advance-requires c κs = (c .before .loop .inv .blocks, c .before .loop .inv .ho
 
 -- src/places.rt:215:5
 loop-less : tie.Need-loop-less Inv-loop μ-loop
-loop-less c = omega (arith, farther (code-fits (c .before .before .before .before .before .before .before .args .code .now) (c .before .before .before .before .before .before .before .args .registers)) (c .before .before .before .before .loop .inv) (c .before .before .advance .result) (c .before .before .before .loop-test .taken) (c .before .before .advance .ensures) (c .before .if1 .taken))
+loop-less c = omega (arith, farther (c .before .before .before .before .loop .inv) (c .before .before .advance .result) (c .before .before .before .loop-test .taken) (c .before .before .advance .ensures) (c .before .if1 .taken))
 
 -- src/places.rt:215:5
 loop-again : tie.Need-loop-again Inv-loop μ-loop
-loop-again c = further (code-fits (c .before .before .before .before .before .before .before .args .code .now) (c .before .before .before .before .before .before .before .args .registers)) (c .before .before .before .before .loop .inv) (c .before .before .advance .result) (c .before .before .before .loop-test .taken) (c .before .before .advance .ensures) (c .before .if1 .taken)
+loop-again c = further (c .before .before .before .before .loop .inv) (c .before .before .advance .result) (c .before .before .before .loop-test .taken) (c .before .before .advance .ensures) (c .before .if1 .taken)
 
 -- src/places.rt:223:13
 not-found-requires : tie.Need-not-found-requires Inv-loop μ-loop
@@ -47,7 +47,7 @@ not-found-requires c κs = search needs
 
 -- src/places.rt:223:13
 returns : tie.Need-returns Inv-loop μ-loop
-returns c = c .not-found .ensures ∙ nothing (code-fits (c .before .before .before .before .before .before .before .args .code .now) (c .before .before .before .before .before .before .before .args .registers)) (c .before .before .before .before .loop .inv) (c .before .before .advance .result) (c .before .before .before .loop-test .taken) (c .before .before .advance .ensures) (c .before .if1 .left)
+returns c = c .not-found .ensures ∙ nothing (c .before .before .before .before .loop .inv) (c .before .before .advance .result) (c .before .before .before .loop-test .taken) (c .before .before .advance .ensures) (c .before .if1 .left)
 
 -- src/places.rt:232:9
 not-found-requires-2 : tie.Need-not-found-requires-2 Inv-loop μ-loop
@@ -55,11 +55,11 @@ not-found-requires-2 c κs = search needs
 
 -- src/places.rt:210:1
 returns-2 : tie.Need-returns-2 Inv-loop μ-loop
-returns-2 c = arrived (code-fits (c .before .before .before .before .before .args .code .now) (c .before .before .before .before .before .args .registers)) (c .before .before .loop .inv) (c .if2 .taken)
+returns-2 c = arrived (c .before .before .loop .inv) (c .if2 .taken)
 
 -- src/places.rt:210:1
 returns-3 : tie.Need-returns-3 Inv-loop μ-loop
-returns-3 c = c .not-found2 .ensures ∙ missed (code-fits (c .before .before .before .before .before .before .args .code .now) (c .before .before .before .before .before .before .args .registers)) (c .before .before .before .loop .inv) (c .before .before .loop-test .left) (c .before .if2 .left)
+returns-3 c = c .not-found2 .ensures ∙ missed (c .before .before .before .loop .inv) (c .before .before .loop-test .left) (c .before .if2 .left)
 
 pub open-at-spec : {M : Type 1} → statement M
 open-at-spec =
