@@ -17,7 +17,7 @@ use Rattle.blocks.specs.Code.{Code}
 use Rattle.blocks.specs.Scan.{nesting, Part, before, after, looping, Open, open-at, Next, over, go, stray, in-loop, ended, react, step, carry, run, checkOf}
 use Rattle.blocks.specs.OpenAt.{Found, nowhere, there, seek, walk, openAt}
 use Rattle.blocks.proofs.Widths.{Fits}
-use Rattle.blocks.proofs.Passes.{Moves, step-moves, step-in, step-past, run-step, run-past}
+use Rattle.blocks.proofs.Passes.{Moves, step-moves, step-in, step-past, run-step, run-to, run-past}
 use Rattle.blocks.proofs.Walks.{onwards, walk-here, walk-on}
 
 there-same : (q o : List Open) → there q ≡ there o → q ≡ o
@@ -177,3 +177,92 @@ module _ (code : Code) (fits : Fits code) where
   pub going-back : (place l : ℕ) (o : List Open) → openAt code place ≡ there (open-at looping l ∷ o) → openAt code (l + 1) ≡ there (open-at looping l ∷ o)
   unfolding EachOpened
   going-back place l o e = each-opened place (open-at looping l ∷ o) e .0 .next
+
+-- where the instructions may stand and lead, with these blocks open: the types have no element where the instruction would be stray
+abbrev ElseAllowed : Code → ℕ → List Open → Type 0
+ElseAllowed code at [] = ⊥
+ElseAllowed code at (open-at before p ∷ o) = openAt code (at + 1) ≡ there (open-at after p ∷ o)
+ElseAllowed code at (open-at after p ∷ o) = ⊥
+ElseAllowed code at (open-at looping p ∷ o) = ⊥
+
+abbrev EndifAllowed : Code → ℕ → List Open → Type 0
+EndifAllowed code at [] = ⊥
+EndifAllowed code at (open-at before p ∷ o) = openAt code (at + 1) ≡ there o
+EndifAllowed code at (open-at after p ∷ o) = openAt code (at + 1) ≡ there o
+EndifAllowed code at (open-at looping p ∷ o) = ⊥
+
+-- a loop that closes goes on after ENDLOOP, and one that does not goes back to the word after its LOOP
+abbrev EndloopAllowed : Code → ℕ → List Open → Type 0
+EndloopAllowed code at [] = ⊥
+EndloopAllowed code at (open-at before p ∷ o) = ⊥
+EndloopAllowed code at (open-at after p ∷ o) = ⊥
+EndloopAllowed code at (open-at looping p ∷ o) = (openAt code (at + 1) ≡ there o) × (openAt code (p + 1) ≡ there (open-at looping p ∷ o))
+
+abbrev pub Allowed : Code → Item → ℕ → List Open → Type 0
+Allowed code (Item.Plain w) at o = openAt code (at + w) ≡ there o
+Allowed code Item.If at o = (length o < nesting) × (openAt code (at + 1) ≡ there (open-at before at ∷ o))
+Allowed code Item.Else at o = ElseAllowed code at o
+Allowed code Item.Endif at o = EndifAllowed code at o
+Allowed code Item.Loop at o = (length o < nesting) × (openAt code (at + 1) ≡ there (open-at looping at ∷ o))
+Allowed code Item.Jump at o = (in-loop o ≡ true) × (openAt code (at + 1) ≡ there o)
+Allowed code Item.Endloop at o = EndloopAllowed code at o
+Allowed code (Item.Bad n) at o = ⊥
+
+module _ (code : Code) (fits : Fits code) (checked : checkOf code ≡ Fine) where
+  -- from wherever the pass comes by, the rest of it is fine
+  fine-from : (place : ℕ) (o : List Open) → openAt code place ≡ there o → run code place o ≡ Fine
+  fine-from place o e =
+      along code (λ at q. run code at q ≡ Fine) (λ at o a q r f. sym (run-step code fits at o ∙ ap (carry (λ v. v) (run code)) f) ∙ r) checked place o e
+
+  module _ (at : ℕ) (h : at < code .size) where
+    leads : (i : Item) (o : List Open) (a : ℕ) (q : List Open) → code .item at ≡ i → openAt code at ≡ there o → react i at o ≡ go a q → openAt code a ≡ there q
+    leads i o a q e here f = going-on code fits at o a q here (step-in code at o h ∙ ap (λ (j : Item). react j at o) e ∙ f)
+
+    refused : {A : Type 0} (i : Item) (o : List Open) (n : ℕ) → code .item at ≡ i → openAt code at ≡ there o → react i at o ≡ over (Refused n at) → A
+    refused i o n e here f =
+        refused-not-fine n at
+        (sym (run-to code fits at o (over (Refused n at)) h (ap (λ (j : Item). react j at o) e ∙ f)) ∙ fine-from at o here)
+
+    opener-allowed : (i : Item) (part : Part) (o : List Open) → code .item at ≡ i → openAt code at ≡ there o → (b : Bool) → ltb (length o) nesting ≡ b
+        → react i at o ≡ cond b (go (at + 1) (open-at part at ∷ o)) (over (Refused 9 at)) → (length o < nesting) × (openAt code (at + 1) ≡ there (open-at part at ∷ o))
+    opener-allowed i part o e here true b f = (ltb-true (length o) nesting b, leads i o (at + 1) (open-at part at ∷ o) e here f)
+    opener-allowed i part o e here false b f = refused i o 9 e here f
+
+    jump-allowed : (o : List Open) → code .item at ≡ Item.Jump → openAt code at ≡ there o → (b : Bool) → in-loop o ≡ b
+        → react Item.Jump at o ≡ cond b (go (at + 1) o) (stray at) → (in-loop o ≡ true) × (openAt code (at + 1) ≡ there o)
+    jump-allowed o e here true b f = (b, leads Item.Jump o (at + 1) o e here f)
+    jump-allowed o e here false b f = refused Item.Jump o 8 e here f
+
+    item-allowed : (i : Item) (o : List Open) → code .item at ≡ i → openAt code at ≡ there o → Allowed code i at o
+    unfolding react
+    item-allowed (Item.Plain w) o e here = leads (Item.Plain w) o (at + w) o e here refl
+    item-allowed Item.If o e here = opener-allowed Item.If before o e here (ltb (length o) nesting) refl refl
+    item-allowed Item.Else [] e here = refused Item.Else [] 8 e here refl
+    item-allowed Item.Else (open-at before p ∷ o) e here = leads Item.Else (open-at before p ∷ o) (at + 1) (open-at after p ∷ o) e here refl
+    item-allowed Item.Else (open-at after p ∷ o) e here = refused Item.Else (open-at after p ∷ o) 8 e here refl
+    item-allowed Item.Else (open-at looping p ∷ o) e here = refused Item.Else (open-at looping p ∷ o) 8 e here refl
+    item-allowed Item.Endif [] e here = refused Item.Endif [] 8 e here refl
+    item-allowed Item.Endif (open-at before p ∷ o) e here = leads Item.Endif (open-at before p ∷ o) (at + 1) o e here refl
+    item-allowed Item.Endif (open-at after p ∷ o) e here = leads Item.Endif (open-at after p ∷ o) (at + 1) o e here refl
+    item-allowed Item.Endif (open-at looping p ∷ o) e here = refused Item.Endif (open-at looping p ∷ o) 8 e here refl
+    item-allowed Item.Loop o e here = opener-allowed Item.Loop looping o e here (ltb (length o) nesting) refl refl
+    item-allowed Item.Jump o e here = jump-allowed o e here (in-loop o) refl refl
+    item-allowed Item.Endloop [] e here = refused Item.Endloop [] 8 e here refl
+    item-allowed Item.Endloop (open-at before p ∷ o) e here = refused Item.Endloop (open-at before p ∷ o) 8 e here refl
+    item-allowed Item.Endloop (open-at after p ∷ o) e here = refused Item.Endloop (open-at after p ∷ o) 8 e here refl
+    item-allowed Item.Endloop (open-at looping p ∷ o) e here =
+        (leads Item.Endloop (open-at looping p ∷ o) (at + 1) o e here refl, going-back code fits at p o here)
+    item-allowed (Item.Bad n) o e here = refused (Item.Bad n) o n e here refl
+
+  -- EACH INSTRUCTION of checked code that the pass comes by stands where it may, and leads to where the pass has the blocks that it leaves open
+  pub allowed : (at : ℕ) (o : List Open) → openAt code at ≡ there o → at < code .size → Allowed code (code .item at) at o
+  allowed at o here h = item-allowed at h (code .item at) o refl here
+
+  -- AT THE END of checked code no block is open
+  none-of-fine : (o : List Open) → ended o ≡ Fine → o ≡ []
+  unfolding ended
+  none-of-fine [] e = refl
+  none-of-fine (open-at part p ∷ o) e = refused-not-fine 10 p e
+
+  pub none-at-the-end : (o : List Open) → openAt code (code .size) ≡ there o → o ≡ []
+  none-at-the-end o e = none-of-fine o (sym (run-past code fits (code .size) o (omega arith)) ∙ fine-from (code .size) o e)
