@@ -6,3 +6,5 @@ mod Stacks
 mod Advances
 pub mod Walks
 pub mod Theorems
+pub mod Instructions
+pub mod OneAnswer

@@ -16,7 +16,7 @@ use Rattle.blocks.specs.declared.structure.Checked.the-variants.{Fine, R
 use Rattle.blocks.specs.Code.{Code}
 use Rattle.blocks.specs.Scan.{nesting, Part, before, after, looping, Open, open-at, Next, over, go, stray, in-loop, ended, react, step, carry, run, checkOf}
 use Rattle.blocks.specs.OpenAt.{Found, nowhere, there, seek, walk, openAt}
-use Rattle.blocks.proofs.Widths.{Fits}
+use Rattle.blocks.proofs.Widths.{Ok, Fits}
 use Rattle.blocks.proofs.Passes.{Moves, step-moves, step-in, step-past, run-step, run-to, run-past}
 use Rattle.blocks.proofs.Walks.{onwards, walk-here, walk-on}
 
@@ -208,6 +208,32 @@ Allowed code Item.Jump at o = (in-loop o ≡ true) × (openAt code (at + 1) ≡ 
 Allowed code Item.Endloop at o = EndloopAllowed code at o
 Allowed code (Item.Bad n) at o = ⊥
 
+-- a later place that the pass comes by
+record Onwards (code : Code) (at : ℕ) : Type 0 where
+  place : ℕ
+  blocks : List Open
+  later : at < place
+  found : openAt code place ≡ there blocks
+
+onwards-from : (code : Code) (i : Item) (at : ℕ) (o : List Open) → Ok at (code .size) i → Allowed code i at o → Onwards code at
+onwards-from code (Item.Plain w) at o ok a = record { place = at + w; blocks = o; later = omega arith; found = a }
+onwards-from code Item.If at o ok a = record { place = at + 1; blocks = open-at before at ∷ o; later = omega arith; found = a .1 }
+onwards-from code Item.Else at [] ok a = absurd a
+onwards-from code Item.Else at (open-at before p ∷ o) ok a = record { place = at + 1; blocks = open-at after p ∷ o; later = omega arith; found = a }
+onwards-from code Item.Else at (open-at after p ∷ o) ok a = absurd a
+onwards-from code Item.Else at (open-at looping p ∷ o) ok a = absurd a
+onwards-from code Item.Endif at [] ok a = absurd a
+onwards-from code Item.Endif at (open-at before p ∷ o) ok a = record { place = at + 1; blocks = o; later = omega arith; found = a }
+onwards-from code Item.Endif at (open-at after p ∷ o) ok a = record { place = at + 1; blocks = o; later = omega arith; found = a }
+onwards-from code Item.Endif at (open-at looping p ∷ o) ok a = absurd a
+onwards-from code Item.Loop at o ok a = record { place = at + 1; blocks = open-at looping at ∷ o; later = omega arith; found = a .1 }
+onwards-from code Item.Jump at o ok a = record { place = at + 1; blocks = o; later = omega arith; found = a .1 }
+onwards-from code Item.Endloop at [] ok a = absurd a
+onwards-from code Item.Endloop at (open-at before p ∷ o) ok a = absurd a
+onwards-from code Item.Endloop at (open-at after p ∷ o) ok a = absurd a
+onwards-from code Item.Endloop at (open-at looping p ∷ o) ok a = record { place = at + 1; blocks = o; later = omega arith; found = a .0 }
+onwards-from code (Item.Bad n) at o ok a = absurd a
+
 module _ (code : Code) (fits : Fits code) (checked : checkOf code ≡ Fine) where
   -- from wherever the pass comes by, the rest of it is fine
   fine-from : (place : ℕ) (o : List Open) → openAt code place ≡ there o → run code place o ≡ Fine
@@ -258,11 +284,25 @@ module _ (code : Code) (fits : Fits code) (checked : checkOf code ≡ Fine) wher
   pub allowed : (at : ℕ) (o : List Open) → openAt code at ≡ there o → at < code .size → Allowed code (code .item at) at o
   allowed at o here h = item-allowed at h (code .item at) o refl here
 
-  -- AT THE END of checked code no block is open
   none-of-fine : (o : List Open) → ended o ≡ Fine → o ≡ []
   unfolding ended
   none-of-fine [] e = refl
   none-of-fine (open-at part p ∷ o) e = refused-not-fine 10 p e
 
-  pub none-at-the-end : (o : List Open) → openAt code (code .size) ≡ there o → o ≡ []
-  none-at-the-end o e = none-of-fine o (sym (run-past code fits (code .size) o (omega arith)) ∙ fine-from (code .size) o e)
+  ended-at : (at : ℕ) (o : List Open) → at ≡ code .size → openAt code at ≡ there o → openAt code (code .size) ≡ there []
+  ended-at at o e here =
+      let end : openAt code (code .size) ≡ there o = subst (λ (x : ℕ). openAt code x ≡ there o) e here in
+      end ∙ ap there (none-of-fine o (sym (run-past code fits (code .size) o (omega arith)) ∙ fine-from (code .size) o end))
+
+  to-the-end : (n at : ℕ) (o : List Open) → code .size ≤ at + n → openAt code at ≡ there o → openAt code (code .size) ≡ there []
+  to-the-end zero at o h here = ended-at at o (omega (arith, found-within code fits at o here)) here
+  to-the-end (suc n) at o h here =
+      dite (decLt at (code .size))
+      (λ (lt : at < code .size).
+      let x : Onwards code at = onwards-from code (code .item at) at o (fits at lt) (allowed at o here lt) in
+      to-the-end n (x .place) (x .blocks) (omega arith) (x .found))
+      (λ ge. ended-at at o (omega (arith, found-within code fits at o here)) here)
+
+  -- AT THE END of checked code no block is open
+  pub none-at-the-end : openAt code (code .size) ≡ there []
+  none-at-the-end = to-the-end (code .size) 0 [] (omega arith) (open-at-start code fits)

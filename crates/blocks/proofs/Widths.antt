@@ -34,7 +34,7 @@ abbrev pub Fits : Code → Type 0
 Fits code = (at : ℕ) → at < code .size → Ok at (code .size) (code .item at)
 
 -- what is read is as wide as its operation, and in the code
-abbrev Wide : ℕ → ℕ → ReadAnswer → Type 0
+abbrev pub Wide : ℕ → ℕ → ReadAnswer → Type 0
 Wide at size (ReadAnswer.Read i n) = (n ≡ sizeOf (limitsOf (i .op) .second)) × (at + n ≤ size)
 Wide at size (ReadAnswer.Refused n) = Unit {0}
 
@@ -58,7 +58,7 @@ op-wide words at (FoundOp.Carried o) h =
     pick-wide at (length words) (ltb (length words - at) (sizeOf s)) (ReadAnswer.Refused 5) (readWords o s (getD words at 0) (secondAt (sizeOf s) words at)) (λ _. tt)
     (λ e. words-wide at (length words) (getD words at 0) (secondAt (sizeOf s) words at) o s refl (omega (arith, ltb-false (length words - at) (sizeOf s) e)))
 
-read-wide : (words : List ℕ) (at : ℕ) → Wide at (length words) (readAt words at)
+pub read-wide : (words : List ℕ) (at : ℕ) → Wide at (length words) (readAt words at)
 read-wide words at =
     pick-wide at (length words) (leb (length words) at) (ReadAnswer.Refused 5) (readOp (opOf (getD words at 0 / 0x1000000) (getD words at 0 / 16 % 16)) words at) (λ _. tt)
     (λ e. op-wide words at (opOf (getD words at 0 / 0x1000000) (getD words at 0 / 16 % 16)) (leb-false (length words) at e))
