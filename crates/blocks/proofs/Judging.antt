@@ -1,18 +1,17 @@
 -- What `judge` answers, against the pass: each turn says what the pass's next step is, for every list of open blocks that fits the level.
 use Prim.Native.Nat.{ℕ, zero, suc, _+_, _-_, _≤_, _<_}
 use native.Mathlib.Omega.{arith}
-use mathlib.Core.Path.{_≡_, refl, sym, ap, _∙_, subst}
+use mathlib.Core.Path.{_≡_, refl, subst}
 use mathlib.Core.Bool.{Bool, true, false, cond}
 use mathlib.Core.List.{List, [], _∷_}
 use lib.ListN.{length}
-use lib.Dec.{eqb, ltb}
+use lib.Dec.{eqb}
 use borrow.Author.Tests.{lt-ltb, le-ltb, ne-eqb}
 use Rattle.blocks.specs.declared.item.Item.{Item}
 use Rattle.blocks.specs.declared.rules.Inside.{Inside}
 use Rattle.blocks.specs.declared.rules.Turn.{Turn}
 use Rattle.blocks.specs.declared.rules.Turn.the-variants.{Go, Close, Enter, Stop}
-use Rattle.blocks.specs.declared.structure.Checked.the-variants.{Fine, Refused}
-use Rattle.blocks.specs.Code.{Code}
+use Rattle.blocks.specs.declared.structure.Checked.the-variants.{Refused}
 use Rattle.blocks.specs.Scan.{nesting, Part, before, after, looping, Open, open-at, Next, over, go, stray, opens, in-loop, ended, react}
 use Rattle.blocks.specs.OpenAt.{loops}
 use Rattle.blocks.specs.Rules.{opening, turnOf}

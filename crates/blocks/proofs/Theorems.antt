@@ -9,9 +9,8 @@ use mathlib.Core.Bool.{Bool, true, false, cond}
 use mathlib.Core.List.{List, [], _∷_}
 use lib.ListN.{length}
 use lib.Dec.{ltb, eqb}
-use borrow.Author.Tests.{lt-ltb, ltb-true, eqb-true, eqb-false}
+use borrow.Author.Tests.{ltb-true, eqb-true}
 use Rattle.blocks.specs.declared.item.Item.{Item}
-use Rattle.blocks.specs.declared.structure.Checked.{Checked}
 use Rattle.blocks.specs.declared.structure.Checked.the-variants.{Fine, Refused}
 use Rattle.blocks.specs.Code.{Code}
 use Rattle.blocks.specs.Scan.{nesting, Part, before, after, looping, Open, open-at, Next, over, go, stray, in-loop, ended, react, step, carry, run, checkOf}
@@ -115,13 +114,18 @@ module _ (code : Code) (fits : Fits code) where
       → (b : Bool) → ltb (length o) nesting ≡ b → step code at o ≡ cond b (go (at + 1) (open-at part at ∷ o)) (over (Refused 9 at))
       → NextOpened code (cond b (go (at + 1) (open-at part at ∷ o)) (over (Refused 9 at)))
   unfolding EachOpened
-  opens-opened part at o first h i k true b e =
-      ((record {
+  opens-opened part at o first h i k true b e = (
+    (
+      record {
         in-code = h;
         opener = i;
         here = k .found;
         next = going-on code fits at o (at + 1) (open-at part at ∷ o) (k .found) e ∙ ap (λ (x : Part). there (open-at x at ∷ o)) (sym first);
-      }, k .opened), omega (arith, ltb-true (length o) nesting b))
+      },
+      k .opened,
+    ),
+    omega (arith, ltb-true (length o) nesting b),
+  )
   opens-opened part at o first h i k false b e = tt
 
   jump-opened : (at : ℕ) (o : List Open) → Nested code at o → (b : Bool) → NextOpened code (cond b (go (at + 1) o) (stray at))

@@ -9,7 +9,6 @@ use lib.Dec.{leb, ltb}
 use borrow.Author.Tests.{ltb-false, leb-false}
 use Rattle.words.specs.declared.instr.ControlOp.{ControlOp}
 use Rattle.words.specs.declared.instr.FoundOp.{FoundOp}
-use Rattle.words.specs.declared.instr.Instr.{Instr}
 use Rattle.words.specs.declared.instr.Op.{Op}
 use Rattle.words.specs.declared.instr.ReadAnswer.{ReadAnswer}
 use Rattle.words.specs.declared.instr.Second.{Second}
