@@ -1,6 +1,7 @@
 // Runs the code's check on the cases of the standard input. A case is a line of words of eight hexadecimal digits, with a space between two:
 // the number of registers, then the code. For each it writes a line, `fine` or the refusal's number and place.
-use blocks::Checked;
+use blocks::structure;
+use blocks::structure::Checked;
 use libc::STDIN_FILENO;
 use libc::STDOUT_FILENO;
 ghost use Prim.Native.Nat.{_≤_};
@@ -40,7 +41,7 @@ fn report(case: [u32; LONGEST], count: usize) {
         return;
     }
     let registers = case[0];
-    let answer = blocks::check(&case[1..count], registers);
+    let answer = structure::check(&case[1..count], registers);
     match answer {
         Checked::Fine => {
             io::write_all(STDOUT_FILENO, b"fine");

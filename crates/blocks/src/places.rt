@@ -2,8 +2,8 @@
 use crate::item;
 use crate::rules;
 use crate::rules::Inside;
-use crate::rules::NESTING;
 use crate::rules::Turn;
+use crate::structure::NESTING;
 ghost use mathlib.Core.Path.{_≡_};
 ghost use mathlib.Core.List.{List, [], _∷_};
 ghost use Prim.Native.Nat.{_≤_, _<_};

@@ -2,7 +2,6 @@
 use crate::item;
 use crate::rules;
 use crate::rules::Inside;
-use crate::rules::NESTING;
 use crate::rules::Turn;
 ghost use mathlib.Core.Path.{_≡_};
 ghost use Prim.Native.Nat.{_≤_};
@@ -10,6 +9,9 @@ ghost use lib.ListN.{length};
 ghost use Rattle.blocks.specs.Code.{codeOf};
 ghost use Rattle.blocks.specs.Scan.{checkOf};
 ghost use Rattle.blocks.specs.Levels.{LevelSays};
+
+// The room for nesting.
+pub const NESTING: usize = 32;
 
 // How a level ends: closed, with the place after its end; refused, with the rule's number and the place; or by the end of the code.
 pub enum BlockEnd {
