@@ -1,0 +1,155 @@
+-- What a run over checked code relies on: at each place that the pass comes by, the instruction is not refused and stands where it may,
+-- and where the run goes on to has just the blocks open that the instruction leaves open; at the end none is open.
+-- For any code, `Induction` has the first place (`open-at-start`) and going on from a place (`going-on`), `Openers` the open blocks' openers
+-- (`each-opened`), their number (`at-most`) and going back to the word after LOOP (`going-back`).
+use Prim.Native.Nat.{ℕ, zero, suc, _+_, _≤_, _<_}
+use native.Mathlib.Omega.{arith}
+use native.Mathlib.Decide.{decLt}
+use mathlib.Core.Path.{_≡_, refl, sym, ap, _∙_, subst}
+use mathlib.Core.Logic.{dite}
+use mathlib.Core.Bool.{Bool, true, false, cond}
+use mathlib.Core.List.{List, [], _∷_}
+use lib.ListN.{length}
+use lib.Dec.{ltb}
+use borrow.Author.Tests.{ltb-true}
+use Rattle.blocks.specs.declared.item.Item.{Item}
+use Rattle.blocks.specs.declared.structure.Checked.the-variants.{Fine, Refused}
+use Rattle.blocks.specs.Code.{Code}
+use Rattle.blocks.specs.Scan.{nesting, Part, before, after, looping, Open, open-at, over, go, stray, in-loop, ended, react, carry, run, checkOf}
+use Rattle.blocks.specs.OpenAt.{there, openAt}
+use Rattle.blocks.proofs.Widths.{Ok, Fits}
+use Rattle.blocks.proofs.Passes.{step-in, run-step, run-to, run-past}
+use Rattle.blocks.proofs.Induction.{along, open-at-start, going-on, found-within}
+use Rattle.blocks.proofs.Openers.{going-back}
+
+refused-not-fine : {A : Type 0} (n p : ℕ) → Refused n p ≡ Fine → A
+refused-not-fine n p e = let z : _≡_ {A = ℕ} 0 1 = cc in absurd (omega arith)
+
+-- where the instructions may stand and lead, with these blocks open: the types have no element where the instruction would be stray
+abbrev ElseAllowed : Code → ℕ → List Open → Type 0
+ElseAllowed code at [] = ⊥
+ElseAllowed code at (open-at before p ∷ o) = openAt code (at + 1) ≡ there (open-at after p ∷ o)
+ElseAllowed code at (open-at after p ∷ o) = ⊥
+ElseAllowed code at (open-at looping p ∷ o) = ⊥
+
+abbrev EndifAllowed : Code → ℕ → List Open → Type 0
+EndifAllowed code at [] = ⊥
+EndifAllowed code at (open-at before p ∷ o) = openAt code (at + 1) ≡ there o
+EndifAllowed code at (open-at after p ∷ o) = openAt code (at + 1) ≡ there o
+EndifAllowed code at (open-at looping p ∷ o) = ⊥
+
+-- a loop that closes goes on after ENDLOOP, and one that does not goes back to the word after its LOOP
+abbrev EndloopAllowed : Code → ℕ → List Open → Type 0
+EndloopAllowed code at [] = ⊥
+EndloopAllowed code at (open-at before p ∷ o) = ⊥
+EndloopAllowed code at (open-at after p ∷ o) = ⊥
+EndloopAllowed code at (open-at looping p ∷ o) = (openAt code (at + 1) ≡ there o) × (openAt code (p + 1) ≡ there (open-at looping p ∷ o))
+
+abbrev pub Allowed : Code → Item → ℕ → List Open → Type 0
+Allowed code (Item.Plain w) at o = openAt code (at + w) ≡ there o
+Allowed code Item.If at o = (length o < nesting) × (openAt code (at + 1) ≡ there (open-at before at ∷ o))
+Allowed code Item.Else at o = ElseAllowed code at o
+Allowed code Item.Endif at o = EndifAllowed code at o
+Allowed code Item.Loop at o = (length o < nesting) × (openAt code (at + 1) ≡ there (open-at looping at ∷ o))
+Allowed code Item.Jump at o = (in-loop o ≡ true) × (openAt code (at + 1) ≡ there o)
+Allowed code Item.Endloop at o = EndloopAllowed code at o
+Allowed code (Item.Bad n) at o = ⊥
+
+-- a later place that the pass comes by
+record Onwards (code : Code) (at : ℕ) : Type 0 where
+  place : ℕ
+  blocks : List Open
+  later : at < place
+  found : openAt code place ≡ there blocks
+
+onwards-from : (code : Code) (i : Item) (at : ℕ) (o : List Open) → Ok at (code .size) i → Allowed code i at o → Onwards code at
+onwards-from code (Item.Plain w) at o ok a = record { place = at + w; blocks = o; later = omega arith; found = a }
+onwards-from code Item.If at o ok a = record { place = at + 1; blocks = open-at before at ∷ o; later = omega arith; found = a .1 }
+onwards-from code Item.Else at [] ok a = absurd a
+onwards-from code Item.Else at (open-at before p ∷ o) ok a = record { place = at + 1; blocks = open-at after p ∷ o; later = omega arith; found = a }
+onwards-from code Item.Else at (open-at after p ∷ o) ok a = absurd a
+onwards-from code Item.Else at (open-at looping p ∷ o) ok a = absurd a
+onwards-from code Item.Endif at [] ok a = absurd a
+onwards-from code Item.Endif at (open-at before p ∷ o) ok a = record { place = at + 1; blocks = o; later = omega arith; found = a }
+onwards-from code Item.Endif at (open-at after p ∷ o) ok a = record { place = at + 1; blocks = o; later = omega arith; found = a }
+onwards-from code Item.Endif at (open-at looping p ∷ o) ok a = absurd a
+onwards-from code Item.Loop at o ok a = record { place = at + 1; blocks = open-at looping at ∷ o; later = omega arith; found = a .1 }
+onwards-from code Item.Jump at o ok a = record { place = at + 1; blocks = o; later = omega arith; found = a .1 }
+onwards-from code Item.Endloop at [] ok a = absurd a
+onwards-from code Item.Endloop at (open-at before p ∷ o) ok a = absurd a
+onwards-from code Item.Endloop at (open-at after p ∷ o) ok a = absurd a
+onwards-from code Item.Endloop at (open-at looping p ∷ o) ok a = record { place = at + 1; blocks = o; later = omega arith; found = a .0 }
+onwards-from code (Item.Bad n) at o ok a = absurd a
+
+module _ (code : Code) (fits : Fits code) (checked : checkOf code ≡ Fine) where
+  -- from wherever the pass comes by, the rest of it is fine
+  fine-from : (place : ℕ) (o : List Open) → openAt code place ≡ there o → run code place o ≡ Fine
+  fine-from place o e =
+      along code (λ at q. run code at q ≡ Fine) (λ at o a q r f. sym (run-step code fits at o ∙ ap (carry (λ v. v) (run code)) f) ∙ r) checked place o e
+
+  module _ (at : ℕ) (h : at < code .size) where
+    leads : (i : Item) (o : List Open) (a : ℕ) (q : List Open) → code .item at ≡ i → openAt code at ≡ there o → react i at o ≡ go a q → openAt code a ≡ there q
+    leads i o a q e here f = going-on code fits at o a q here (step-in code at o h ∙ ap (λ (j : Item). react j at o) e ∙ f)
+
+    refused : {A : Type 0} (i : Item) (o : List Open) (n : ℕ) → code .item at ≡ i → openAt code at ≡ there o → react i at o ≡ over (Refused n at) → A
+    refused i o n e here f =
+        refused-not-fine n at
+        (sym (run-to code fits at o (over (Refused n at)) h (ap (λ (j : Item). react j at o) e ∙ f)) ∙ fine-from at o here)
+
+    opener-allowed : (i : Item) (part : Part) (o : List Open) → code .item at ≡ i → openAt code at ≡ there o → (b : Bool) → ltb (length o) nesting ≡ b
+        → react i at o ≡ cond b (go (at + 1) (open-at part at ∷ o)) (over (Refused 9 at)) → (length o < nesting) × (openAt code (at + 1) ≡ there (open-at part at ∷ o))
+    opener-allowed i part o e here true b f = (ltb-true (length o) nesting b, leads i o (at + 1) (open-at part at ∷ o) e here f)
+    opener-allowed i part o e here false b f = refused i o 9 e here f
+
+    jump-allowed : (o : List Open) → code .item at ≡ Item.Jump → openAt code at ≡ there o → (b : Bool) → in-loop o ≡ b
+        → react Item.Jump at o ≡ cond b (go (at + 1) o) (stray at) → (in-loop o ≡ true) × (openAt code (at + 1) ≡ there o)
+    jump-allowed o e here true b f = (b, leads Item.Jump o (at + 1) o e here f)
+    jump-allowed o e here false b f = refused Item.Jump o 8 e here f
+
+    item-allowed : (i : Item) (o : List Open) → code .item at ≡ i → openAt code at ≡ there o → Allowed code i at o
+    unfolding react
+    item-allowed (Item.Plain w) o e here = leads (Item.Plain w) o (at + w) o e here refl
+    item-allowed Item.If o e here = opener-allowed Item.If before o e here (ltb (length o) nesting) refl refl
+    item-allowed Item.Else [] e here = refused Item.Else [] 8 e here refl
+    item-allowed Item.Else (open-at before p ∷ o) e here = leads Item.Else (open-at before p ∷ o) (at + 1) (open-at after p ∷ o) e here refl
+    item-allowed Item.Else (open-at after p ∷ o) e here = refused Item.Else (open-at after p ∷ o) 8 e here refl
+    item-allowed Item.Else (open-at looping p ∷ o) e here = refused Item.Else (open-at looping p ∷ o) 8 e here refl
+    item-allowed Item.Endif [] e here = refused Item.Endif [] 8 e here refl
+    item-allowed Item.Endif (open-at before p ∷ o) e here = leads Item.Endif (open-at before p ∷ o) (at + 1) o e here refl
+    item-allowed Item.Endif (open-at after p ∷ o) e here = leads Item.Endif (open-at after p ∷ o) (at + 1) o e here refl
+    item-allowed Item.Endif (open-at looping p ∷ o) e here = refused Item.Endif (open-at looping p ∷ o) 8 e here refl
+    item-allowed Item.Loop o e here = opener-allowed Item.Loop looping o e here (ltb (length o) nesting) refl refl
+    item-allowed Item.Jump o e here = jump-allowed o e here (in-loop o) refl refl
+    item-allowed Item.Endloop [] e here = refused Item.Endloop [] 8 e here refl
+    item-allowed Item.Endloop (open-at before p ∷ o) e here = refused Item.Endloop (open-at before p ∷ o) 8 e here refl
+    item-allowed Item.Endloop (open-at after p ∷ o) e here = refused Item.Endloop (open-at after p ∷ o) 8 e here refl
+    item-allowed Item.Endloop (open-at looping p ∷ o) e here =
+        (leads Item.Endloop (open-at looping p ∷ o) (at + 1) o e here refl, going-back code fits at p o here)
+    item-allowed (Item.Bad n) o e here = refused (Item.Bad n) o n e here refl
+
+  -- EACH INSTRUCTION of checked code that the pass comes by stands where it may, and leads to where the pass has the blocks that it leaves open
+  pub allowed : (at : ℕ) (o : List Open) → openAt code at ≡ there o → at < code .size → Allowed code (code .item at) at o
+  allowed at o here h = item-allowed at h (code .item at) o refl here
+
+  none-of-fine : (o : List Open) → ended o ≡ Fine → o ≡ []
+  unfolding ended
+  none-of-fine [] e = refl
+  none-of-fine (open-at part p ∷ o) e = refused-not-fine 10 p e
+
+  ended-at : (at : ℕ) (o : List Open) → at ≡ code .size → openAt code at ≡ there o → openAt code (code .size) ≡ there []
+  ended-at at o e here =
+      let end : openAt code (code .size) ≡ there o = subst (λ (x : ℕ). openAt code x ≡ there o) e here in
+      end ∙ ap there (none-of-fine o (sym (run-past code fits (code .size) o (omega arith)) ∙ fine-from (code .size) o end))
+
+  to-the-end : (n at : ℕ) (o : List Open) → code .size ≤ at + n → openAt code at ≡ there o → openAt code (code .size) ≡ there []
+  to-the-end zero at o h here = ended-at at o (omega (arith, found-within code fits at o here)) here
+  to-the-end (suc n) at o h here =
+      dite (decLt at (code .size))
+      (λ (lt : at < code .size).
+      let x : Onwards code at = onwards-from code (code .item at) at o (fits at lt) (allowed at o here lt) in
+      to-the-end n (x .place) (x .blocks) (omega arith) (x .found))
+      (λ ge. ended-at at o (omega (arith, found-within code fits at o here)) here)
+
+  -- AT THE END of checked code no block is open
+  pub none-at-the-end : openAt code (code .size) ≡ there []
+  none-at-the-end = to-the-end (code .size) 0 [] (omega arith) (open-at-start code fits)

@@ -1,0 +1,46 @@
+-- What was read decides: the refusal, or the registers and then the operation.
+use mathlib.Core.Path.{sym, _∙_}
+use Rattle.blocks.specs.Item.{itemAt}
+use borrow.Author.Needs.{needs}
+use Rattle.blocks.proofs.item.look.Statement.{statement}
+use Rattle.blocks.proofs.item.look.Tie as tie
+
+read-at-requires : tie.Need-read-at-requires
+read-at-requires c κs = search needs
+
+enum-known-answer : tie.Need-enum-known-answer
+enum-known-answer c = search needs
+
+registers-below-requires : tie.Need-registers-below-requires
+registers-below-requires c κs = search needs
+
+item-of-requires : tie.Need-item-of-requires
+item-of-requires c κs = search needs
+
+enum-known-answer-2 : tie.Need-enum-known-answer-2
+enum-known-answer-2 c = search needs
+
+returns : tie.Need-returns
+unfolding itemAt
+returns c = rw (sym (c .before .before .before .before .before .before .read-at .ensures) ∙ c .before .before .before .before .answer .given .1, sym (c .before .before .registers-below .ensures) ∙ c .before .if1 .taken) (c .item-of .ensures)
+
+returns-2 : tie.Need-returns-2
+unfolding itemAt
+returns-2 c = rw (sym (c .before .before .before .before .before .read-at .ensures) ∙ c .before .before .before .answer .given .1, sym (c .before .registers-below .ensures) ∙ c .if1 .left)
+
+returns-3 : tie.Need-returns-3
+unfolding itemAt
+returns-3 c = rw (sym (c .before .before .before .read-at .ensures) ∙ c .before .answer2 .given .1)
+
+pub look-spec : {M : Type 1} → statement M
+look-spec =
+    tie.close
+    (tie.spec
+    read-at-requires
+    enum-known-answer
+    registers-below-requires
+    item-of-requires
+    enum-known-answer-2
+    returns
+    returns-2
+    returns-3)

@@ -1,0 +1,17 @@
+-- The empty stack is the stack of no blocks.
+use mathlib.Core.Bool.{false}
+use mathlib.Core.Path.{ap}
+use mathlib.Core.List.{[]}
+use Rattle.blocks.proofs.Stacks.{holds-is}
+use borrow.Author.Needs.{needs}
+use Rattle.blocks.proofs.places.not_found.Statement.{statement}
+use Rattle.blocks.proofs.places.not_found.Tie as tie
+
+empty-requires : tie.Need-empty-requires
+empty-requires c κs = search needs
+
+returns : tie.Need-returns
+returns c = ap (λ s. record { found = false; stack = s }) (holds-is _ [] (c .empty .ensures))
+
+pub not-found-spec : {M : Type 1} → statement M
+not-found-spec = tie.close (tie.spec empty-requires returns)

@@ -1,0 +1,31 @@
+-- The whole code is a level outside every block, which nothing closes.
+use Rattle.blocks.proofs.Reaching.{whole-closed, whole-refused, whole-ended}
+use borrow.Author.Needs.{needs}
+use Rattle.blocks.proofs.structure.check.Statement.{statement}
+use Rattle.blocks.proofs.structure.check.Tie as tie
+
+level-requires : tie.Need-level-requires
+level-requires c κs = search needs
+
+enum-told : tie.Need-enum-told
+enum-told c = search needs
+
+enum-known-end : tie.Need-enum-known-end
+enum-known-end c = search needs
+
+enum-told-2 : tie.Need-enum-told-2
+enum-told-2 c = search needs
+
+returns : tie.Need-returns
+returns c = absurd (whole-closed (c .before .before .level .ensures) (c .enum-told .given .1))
+
+returns-2 : tie.Need-returns-2
+returns-2 c = whole-refused (c .before .before .before .level .ensures) (c .before .end .given .1)
+
+returns-3 : tie.Need-returns-3
+returns-3 c = whole-ended (c .before .before .level .ensures) (c .enum-told2 .given .1)
+
+pub check-spec : {M : Type 1} → statement M
+check-spec =
+    tie.close
+    (tie.spec level-requires enum-told enum-known-end enum-told-2 returns returns-2 returns-3)
