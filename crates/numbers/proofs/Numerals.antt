@@ -5,7 +5,7 @@ use mathlib.Core.List.{List, [], _∷_, _++_, append-assoc, flatMap}
 use native.Mathlib.Omega.{arith}
 use native.Mathlib.Nat.{add-zero, div-div-eq-div-mul, div-add-mod, mod-eq-of-lt}
 use lib.ListN.{length, getD, take, drop, length-append, List·getD-append, List·getD-eq-default}
-use lib.Seq.{length-take-le, getD-drop, drop-cons, drop-at}
+use lib.Seq.{length-take-le, getD-drop, drop-cons, drop-at, drop-drop}
 use Rattle.numbers.specs.Numbers.{bound, bytesOf, numberAt, bytesOfAll, Bytes, Small}
 use Rattle.numbers.specs.Placed.{placed}
 use Rattle.numbers.proofs.Placing.{placed-parts}
@@ -107,6 +107,29 @@ module _ (s : List ℕ) (p : ℕ) (by : Bytes s) where
   unfolding numberAt
   number-small = omega (arith, by p, by (p + 1), by (p + 2), by (p + 3))
 
+-- ---- numbers of four bytes, put together and taken apart
+
+pub small-nil : Small []
+small-nil = record { below = λ i. omega arith }
+
+pub small-cons : (n : ℕ) (ns : List ℕ) → n < bound → Small ns → Small (n ∷ ns)
+small-cons n ns h k = record { below = go }
+  where
+    go : (i : ℕ) → getD (n ∷ ns) i 0 < bound
+    go zero = h
+    go (suc i) = k .below i
+
+pub small-tail : {n : ℕ} {ns : List ℕ} → Small (n ∷ ns) → Small ns
+small-tail h = record { below = λ i. h .below (suc i) }
+
+pub small-append : (ms ns : List ℕ) → Small ms → Small ns → Small (ms ++ ns)
+small-append [] ns h k = k
+small-append (m ∷ ms) ns h k = small-cons m (ms ++ ns) (h .below 0) (small-append ms ns (small-tail h) k)
+
+pub small-drop : (ms ns : List ℕ) → Small (ms ++ ns) → Small ns
+small-drop [] ns h = h
+small-drop (m ∷ ms) ns h = small-drop ms ns (small-tail h)
+
 -- ---- lists of numbers
 
 pub length-bytesOfAll : (ns : List ℕ) → length (bytesOfAll ns) ≡ 4 * length ns
@@ -123,14 +146,14 @@ bytes-append (m ∷ ms) ns = ap (λ (l : List ℕ). bytesOf m ++ l) (bytes-appen
 pub number-nth : (ns t : List ℕ) (i : ℕ) → Small ns → i < length ns → numberAt (bytesOfAll ns ++ t) (4 * i) ≡ getD ns i 0
 unfolding bytesOfAll flatMap
 number-nth [] t i h k = absurd (omega arith)
-number-nth (n ∷ ns) t zero h k = rw (append-assoc (bytesOf n) (bytesOfAll ns) t) (number-front n (bytesOfAll ns ++ t) (h 0))
+number-nth (n ∷ ns) t zero h k = rw (append-assoc (bytesOf n) (bytesOfAll ns) t) (number-front n (bytesOfAll ns ++ t) (h .below 0))
 number-nth (n ∷ ns) t (suc i) h k =
     let e : 4 * suc i ≡ 4 + 4 * i = omega arith in
     let d : drop 4 ((bytesOf n ++ bytesOfAll ns) ++ t) ≡ bytesOfAll ns ++ t = ap (drop 4) (append-assoc (bytesOf n) (bytesOfAll ns) t) ∙ drop-at (bytesOf n) (bytesOfAll ns ++ t) 4 (length-bytesOf n) in
     ap (numberAt ((bytesOf n ++ bytesOfAll ns) ++ t)) e
     ∙ sym (number-drop ((bytesOf n ++ bytesOfAll ns) ++ t) 4 (4 * i))
     ∙ ap (λ (l : List ℕ). numberAt l (4 * i)) d
-    ∙ number-nth ns t i (λ j. h (suc j)) (omega arith)
+    ∙ number-nth ns t i (small-tail h) (omega arith)
 
 -- no two lists of numbers have the same bytes
 pub bytesOfAll-inj : (ms ns : List ℕ) → Small ms → Small ns → bytesOfAll ms ≡ bytesOfAll ns → ms ≡ ns
@@ -139,9 +162,9 @@ bytesOfAll-inj [] [] f g e = refl
 bytesOfAll-inj [] (n ∷ ns) f g e = let a = ap length e in let b = length-append (bytesOf n) (bytesOfAll ns) in let c = length-bytesOf n in absurd (omega arith)
 bytesOfAll-inj (m ∷ ms) [] f g e = let a = ap length e in let b = length-append (bytesOf m) (bytesOfAll ms) in let c = length-bytesOf m in absurd (omega arith)
 bytesOfAll-inj (m ∷ ms) (n ∷ ns) f g e =
-    let h : m ≡ n = sym (number-front m (bytesOfAll ms) (f 0)) ∙ ap (λ (l : List ℕ). numberAt l 0) e ∙ number-front n (bytesOfAll ns) (g 0) in
+    let h : m ≡ n = sym (number-front m (bytesOfAll ms) (f .below 0)) ∙ ap (λ (l : List ℕ). numberAt l 0) e ∙ number-front n (bytesOfAll ns) (g .below 0) in
     let t : bytesOfAll ms ≡ bytesOfAll ns = sym (drop-at (bytesOf m) (bytesOfAll ms) 4 (length-bytesOf m)) ∙ ap (drop 4) e ∙ drop-at (bytesOf n) (bytesOfAll ns) 4 (length-bytesOf n) in
-    ap₂ _∷_ h (bytesOfAll-inj ms ns (λ i. f (suc i)) (λ i. g (suc i)) t)
+    ap₂ _∷_ h (bytesOfAll-inj ms ns (small-tail f) (small-tail g) t)
 
 number-four : (s : List ℕ) (a b c d : ℕ) → a ≡ getD s 0 0 → b ≡ getD s 1 0 → c ≡ getD s 2 0 → d ≡ getD s 3 0
     → a + 256 * b + 65536 * c + 16777216 * d ≡ numberAt s 0
@@ -154,3 +177,31 @@ pub number-part : (s : List ℕ) (p a b c d : ℕ) (rest : List ℕ) → rest �
 number-part s p a b c d rest er ea eb ec ed =
     let e : a + 256 * b + 65536 * c + 16777216 * d ≡ numberAt rest 0 = number-four rest a b c d ea eb ec ed in
     e ∙ ap (λ (l : List ℕ). numberAt l 0) er ∙ number-drop s p 0 ∙ ap (numberAt s) (add-zero p)
+
+-- ---- numbers that stand one behind another
+
+-- numbers stand at p, and t behind them: the first is read there, and the rest stands four bytes on
+module _ (s t : List ℕ) (p n : ℕ) (ns : List ℕ) where
+  front : drop p s ≡ bytesOfAll (n ∷ ns) ++ t → drop p s ≡ bytesOf n ++ (bytesOfAll ns ++ t)
+  unfolding bytesOfAll flatMap
+  front e = e ∙ append-assoc (bytesOf n) (bytesOfAll ns) t
+
+  pub peel : n < bound → drop p s ≡ bytesOfAll (n ∷ ns) ++ t → numberAt s p ≡ n
+  peel h e = number-here s p n (bytesOfAll ns ++ t) h (front e)
+
+  pub peel-rest : drop p s ≡ bytesOfAll (n ∷ ns) ++ t → drop (p + 4) s ≡ bytesOfAll ns ++ t
+  peel-rest e = sym (drop-drop 4 p s) ∙ ap (drop 4) (front e) ∙ drop-at (bytesOf n) (bytesOfAll ns ++ t) 4 (length-bytesOf n)
+
+-- the bytes of s from p up to q are those of ns
+abbrev pub Holds : List ℕ → ℕ → List ℕ → ℕ → Type 0
+Holds s p ns q = drop p s ≡ bytesOfAll ns ++ drop q s
+
+pub holds-next : (s : List ℕ) (p q r : ℕ) (ns : List ℕ) → Bytes s → q ≡ p + 4 → q ≤ length s → Holds s q ns r → Holds s p (numberAt s p ∷ ns) r
+unfolding bytesOfAll flatMap
+holds-next s p q r ns by e h rest =
+    number-bytes s p by (omega arith)
+    ∙ ap (λ (l : List ℕ). bytesOf (numberAt s p) ++ l) (ap (λ (k : ℕ). drop k s) (sym e) ∙ rest)
+    ∙ sym (append-assoc (bytesOf (numberAt s p)) (bytesOfAll ns) (drop r s))
+
+pub holds-join : (s : List ℕ) (p q r : ℕ) (ms ns : List ℕ) → Holds s p ms q → Holds s q ns r → Holds s p (ms ++ ns) r
+holds-join s p q r ms ns a b = a ∙ ap (λ (l : List ℕ). bytesOfAll ms ++ l) b ∙ sym (append-assoc (bytesOfAll ms) (bytesOfAll ns) (drop r s)) ∙ ap (λ (l : List ℕ). l ++ drop r s) (sym (bytes-append ms ns))
