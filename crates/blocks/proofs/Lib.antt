@@ -2,7 +2,7 @@ pub mod Widths
 pub mod Passes
 mod Judging
 mod Reaching
-mod Stacks
+pub mod Stacks
 mod Advances
 pub mod Walks
 pub mod Induction

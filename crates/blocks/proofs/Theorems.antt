@@ -25,26 +25,30 @@ use Rattle.blocks.proofs.Openers.{going-back}
 refused-not-fine : {A : Type 0} (n p : ℕ) → Refused n p ≡ Fine → A
 refused-not-fine n p e = let z : _≡_ {A = ℕ} 0 1 = cc in absurd (omega arith)
 
--- where the instructions may stand and lead, with these blocks open: the types have no element where the instruction would be stray
-abbrev ElseAllowed : Code → ℕ → List Open → Type 0
+-- WHERE AN INSTRUCTION MAY STAND AND LEAD, with these blocks open. Where it would be stray there is no proof.
+
+-- ELSE: directly in an IF before its ELSE
+abbrev pub ElseAllowed : Code → ℕ → List Open → Type 0
 ElseAllowed code at [] = ⊥
 ElseAllowed code at (open-at before p ∷ o) = openAt code (at + 1) ≡ there (open-at after p ∷ o)
 ElseAllowed code at (open-at after p ∷ o) = ⊥
 ElseAllowed code at (open-at looping p ∷ o) = ⊥
 
-abbrev EndifAllowed : Code → ℕ → List Open → Type 0
+-- ENDIF: directly in an IF
+abbrev pub EndifAllowed : Code → ℕ → List Open → Type 0
 EndifAllowed code at [] = ⊥
 EndifAllowed code at (open-at before p ∷ o) = openAt code (at + 1) ≡ there o
 EndifAllowed code at (open-at after p ∷ o) = openAt code (at + 1) ≡ there o
 EndifAllowed code at (open-at looping p ∷ o) = ⊥
 
--- a loop that closes goes on after ENDLOOP, and one that does not goes back to the word after its LOOP
-abbrev EndloopAllowed : Code → ℕ → List Open → Type 0
+-- ENDLOOP: directly in a loop; one that closes goes on after ENDLOOP, one that does not goes back to the word after its LOOP
+abbrev pub EndloopAllowed : Code → ℕ → List Open → Type 0
 EndloopAllowed code at [] = ⊥
 EndloopAllowed code at (open-at before p ∷ o) = ⊥
 EndloopAllowed code at (open-at after p ∷ o) = ⊥
 EndloopAllowed code at (open-at looping p ∷ o) = (openAt code (at + 1) ≡ there o) × (openAt code (p + 1) ≡ there (open-at looping p ∷ o))
 
+-- any instruction: a refused one nowhere, IF and LOOP where there is room, BREAK and CONTINUE inside some loop
 abbrev pub Allowed : Code → Item → ℕ → List Open → Type 0
 Allowed code (Item.Plain w) at o = openAt code (at + w) ≡ there o
 Allowed code Item.If at o = (length o < nesting) × (openAt code (at + 1) ≡ there (open-at before at ∷ o))

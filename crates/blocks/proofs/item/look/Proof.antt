@@ -22,11 +22,15 @@ enum-known-answer-2 c = search needs
 
 returns : tie.Need-returns
 unfolding itemAt
-returns c = rw (sym (c .before .before .before .before .before .before .read-at .ensures) ∙ c .before .before .before .before .answer .given .1, sym (c .before .before .registers-below .ensures) ∙ c .before .if1 .taken) (c .item-of .ensures)
+returns c =
+    let a = c .before .before .before .before in
+    rw (sym (a .before .before .read-at .ensures) ∙ a .answer .given .1, sym (c .before .before .registers-below .ensures) ∙ c .before .if1 .taken) (c .item-of .ensures)
 
 returns-2 : tie.Need-returns-2
 unfolding itemAt
-returns-2 c = rw (sym (c .before .before .before .before .before .read-at .ensures) ∙ c .before .before .before .answer .given .1, sym (c .before .registers-below .ensures) ∙ c .if1 .left)
+returns-2 c =
+    let a = c .before .before .before in
+    rw (sym (a .before .before .read-at .ensures) ∙ a .answer .given .1, sym (c .before .registers-below .ensures) ∙ c .if1 .left)
 
 returns-3 : tie.Need-returns-3
 unfolding itemAt

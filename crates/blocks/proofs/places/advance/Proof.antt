@@ -1,12 +1,12 @@
 -- One instruction of the walk: what is known once the turn has been judged is one record, and each turn a law of `Advances`.
 use native.Mathlib.Omega.{arith}
-use mathlib.Core.Path.{refl, sym, ap, _∙_}
+use mathlib.Core.Path.{refl}
 use Prim.Native.Nat.{_-_}
 use lib.Dec.{ltb}
 use Rattle.blocks.specs.Code.{codeOf}
 use Rattle.blocks.specs.Scan.{nesting}
-use Rattle.blocks.specs.Rules.{turnOf}
 use Rattle.blocks.proofs.Widths.{code-fits}
+use Rattle.blocks.proofs.Judging.{turned}
 use Rattle.blocks.proofs.Advances.{Ready, stopped, on, on-ok, close, enter, enter-ok, stop}
 use borrow.Author.Needs.{needs}
 use Rattle.blocks.proofs.places.advance.Statement.{statement}
@@ -17,12 +17,13 @@ ready : (j : tie.After-judge)
     → let a = j .before .before .before .before .before .args in
     Ready (codeOf (a .code .now) (a .registers)) (a .at) (a .s) (j .before .inner .result) (ltb 0 (a .s .loops)) (j .judge .result)
 ready j =
+    let a = j .before .before .before .before .before .args in
     record {
-      fits = code-fits (j .before .before .before .before .before .args .code .now) (j .before .before .before .before .before .args .registers);
+      fits = code-fits (a .code .now) (a .registers);
       in-code = j .before .before .before .if1 .left;
       inside = j .before .inner .ensures;
       looped = refl;
-      turn = ap (λ i. turnOf i (nesting - j .before .before .before .before .before .args .s .depth) (j .before .inner .result) (ltb 0 (j .before .before .before .before .before .args .s .loops))) (sym (j .before .before .look .ensures)) ∙ sym (j .judge .ensures);
+      turn = turned (codeOf (a .code .now) (a .registers)) (a .at) (nesting - a .s .depth) (j .before .inner .result) (ltb 0 (a .s .loops)) (j .before .before .look .ensures) (j .judge .ensures);
     }
 
 returns : tie.Need-returns
@@ -62,7 +63,9 @@ enum-known-turn-2 : tie.Need-enum-known-turn-2
 enum-known-turn-2 c = search needs
 
 pushed-requires : tie.Need-pushed-requires
-pushed-requires c κs = enter-ok (ready (c .before .before .before)) (c .before .turn2 .given .1) (c .before .before .before .before .before .before .before .before .pre .0) (c .before .before .before .before .before .before .before .before .pre .1)
+pushed-requires c κs =
+    let held = c .before .before .before .before .before .before .before .before .pre in
+    enter-ok (ready (c .before .before .before)) (c .before .turn2 .given .1) (held .0) (held .1)
 
 add-t22 : tie.Need-add-t22
 add-t22 c = search needs

@@ -26,16 +26,22 @@ advance-requires : tie.Need-advance-requires Inv-loop μ-loop
 advance-requires c κs = (c .before .loop .inv .blocks, c .before .loop .inv .holds)
 
 loop-less : tie.Need-loop-less Inv-loop μ-loop
-loop-less c = omega (arith, farther (c .before .before .before .before .loop .inv) (c .before .before .advance .result) (c .before .before .before .loop-test .taken) (c .before .before .advance .ensures) (c .before .if1 .taken))
+loop-less c =
+    let a = c .before .before in
+    omega (arith, farther (a .before .before .loop .inv) (a .advance .result) (a .before .loop-test .taken) (a .advance .ensures) (c .before .if1 .taken))
 
 loop-again : tie.Need-loop-again Inv-loop μ-loop
-loop-again c = further (c .before .before .before .before .loop .inv) (c .before .before .advance .result) (c .before .before .before .loop-test .taken) (c .before .before .advance .ensures) (c .before .if1 .taken)
+loop-again c =
+    let a = c .before .before in
+    further (a .before .before .loop .inv) (a .advance .result) (a .before .loop-test .taken) (a .advance .ensures) (c .before .if1 .taken)
 
 not-found-requires : tie.Need-not-found-requires Inv-loop μ-loop
 not-found-requires c κs = search needs
 
 returns : tie.Need-returns Inv-loop μ-loop
-returns c = c .not-found .ensures ∙ nothing (c .before .before .before .before .loop .inv) (c .before .before .advance .result) (c .before .before .before .loop-test .taken) (c .before .before .advance .ensures) (c .before .if1 .left)
+returns c =
+    let a = c .before .before in
+    c .not-found .ensures ∙ nothing (a .before .before .loop .inv) (a .advance .result) (a .before .loop-test .taken) (a .advance .ensures) (c .before .if1 .left)
 
 not-found-requires-2 : tie.Need-not-found-requires-2 Inv-loop μ-loop
 not-found-requires-2 c κs = search needs

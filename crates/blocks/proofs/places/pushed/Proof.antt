@@ -26,10 +26,16 @@ add-r-2 : tie.Need-add-r-2
 add-r-2 c = search needs
 
 returns : tie.Need-returns
-returns c = λ o h. push _ o (c .before .before .args .inside) _ _ _ h (c .before .before .pre .0) (c .before .number .ensures) (one-more (c .before .before .args .inside) _ _ (c .before .number .ensures) (c .if1 .taken))
+returns c =
+    let k = c .before .before .args .inside in
+    let n = c .before .number .ensures in
+    λ o h. push _ o k _ _ _ h (c .before .before .pre .0) n (one-more k _ _ n (c .if1 .taken))
 
 returns-2 : tie.Need-returns-2
-returns-2 c = λ o h. push _ o (c .before .before .args .inside) _ _ _ h (c .before .before .pre .0) (c .before .number .ensures) (no-more (c .before .before .args .inside) _ _ (c .before .number .ensures) (c .if1 .left))
+returns-2 c =
+    let k = c .before .before .args .inside in
+    let n = c .before .number .ensures in
+    λ o h. push _ o k _ _ _ h (c .before .before .pre .0) n (no-more k _ _ n (c .if1 .left))
 
 pub pushed-spec : {M : Type 1} → statement M
 pushed-spec =
