@@ -1,0 +1,7 @@
+-- The wave, its control rules, and the numbers that hold it.
+pub mod Sets
+pub mod Layout
+pub mod Wave
+pub mod Rules
+pub mod Search
+pub mod Control

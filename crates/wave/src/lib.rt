@@ -1,0 +1,4 @@
+// The wave: its state, the control rules, and when a handed-in state fits.
+pub mod control;
+pub mod rules;
+pub mod state;

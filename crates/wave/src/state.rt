@@ -1,0 +1,84 @@
+// The state of a wave: the hot numbers by value, and the open blocks in one array, outermost first, six numbers each in the key's order.
+ghost use mathlib.Core.Path.{_≡_};
+ghost use Prim.Native.Nat.{min};
+ghost use lib.ListN.{length};
+ghost use Rattle.wave.specs.Layout.{depthLimit, pathNumbers};
+
+pub type Lanes = u32;
+
+// At most so many blocks are open.
+pub const DEPTH_LIMIT: u32 = 32;
+
+// An open block is six numbers: its part, and then these.
+pub const BLOCK_NUMBERS: usize = 6;
+
+pub const OPENER: usize = 1;
+
+pub const ENTERED: usize = 2;
+
+pub const ASIDE: usize = 3;
+
+pub const AGAIN: usize = 4;
+
+pub const LEFT: usize = 5;
+
+// The numbers of as many blocks as can be open.
+pub const PATH_NUMBERS: usize = 192;
+
+// A block's part.
+pub const BEFORE_ELSE: u32 = 1;
+
+pub const AFTER_ELSE: u32 = 2;
+
+pub const LOOP: u32 = 3;
+
+// The numbers that nearly every step reads or writes. `depth` is how many blocks are open.
+pub struct Hot {
+    pub place: u32,
+    pub active: Lanes,
+    pub halted: Lanes,
+    pub p1: Lanes,
+    pub p2: Lanes,
+    pub p3: Lanes,
+    pub depth: u32,
+}
+
+// An open block.
+pub struct Block {
+    pub part: u32,
+    pub opener: u32,
+    pub entered: Lanes,
+    pub aside: Lanes,
+    pub again: Lanes,
+    pub left: Lanes,
+}
+
+// A wave's whole state. The numbers of `blocks` past the open blocks do not count.
+pub struct State {
+    pub hot: Hot,
+    pub blocks: [u32; PATH_NUMBERS],
+}
+
+// A depth over 32 is read as 32.
+pub fn depth_of(depth: u32) -> u32
+    ensures { λ r. ⌜ r ≡ min depth depthLimit ⌝ }
+{
+    if depth < DEPTH_LIMIT {
+        depth
+    } else {
+        DEPTH_LIMIT
+    }
+}
+
+fn len_of(words: &[u32]) -> usize
+    ensures { λ r. ⌜ r ≡ length (now (words .entry)) ⌝ }
+{
+    words.len()
+}
+
+// Says nothing to the run: it tells a proof how long the array of open blocks is.
+pub fn whole(bl: &[u32; PATH_NUMBERS])
+    ensures { λ r. ⌜ length (now (bl .entry)) ≡ pathNumbers ⌝ }
+{
+    len_of(bl);
+}
