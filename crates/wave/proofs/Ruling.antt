@@ -10,7 +10,7 @@ use borrow.Author.Tests.{ne-eqb, lt-ltb}
 use lib.ListN.{length, getD, set, drop, length-map, length-drop}
 use lib.Bits.{bitOr}
 use Rattle.words.specs.declared.instr.ControlOp.{ControlOp}
-use Rattle.wave.specs.Sets.{without}
+use Rattle.lanes.specs.Sets.{without}
 use Rattle.wave.specs.declared.state.Block.{Block}
 use Rattle.wave.specs.declared.state.Hot.{Hot}
 use Rattle.wave.specs.declared.rules.Stepped.{Stepped}
@@ -165,10 +165,11 @@ module _ {h : Hot} {xs : List ℕ} {p : ℕ} where
       (rw (set-number xs d l (6 * d + 4) 4 0 refl) (sym (over-top xs d l _))))
 
 -- ---- HALT: the lanes t have left every open block
-pub halted-all : {h : Hot} {xs : List ℕ} {d p : ℕ} → Begun h xs d p → (ys : List ℕ) (t : ℕ) → ys ≡ walked (map (leave t)) d xs
+pub halted-all : {h : Hot} {xs : List ℕ} {d p : ℕ} → Begun h xs d p → (a t : ℕ) (ys : List ℕ) → a ≡ without (h .active) t
+    → ys ≡ walked (map (leave t)) d xs
     → Does (haltRule t) h xs
-    (record { place = p; active = without (h .active) t; halted = bitOr (h .halted) t; p1 = h .p1; p2 = h .p2; p3 = h .p3; depth = d }) ys
-halted-all {xs = xs} {d = d} g ys t y = rw (g .place, y, ← g .depth, length-map, length-opened xs d)
+    (record { place = p; active = a; halted = bitOr (h .halted) t; p1 = h .p1; p2 = h .p2; p3 = h .p3; depth = d }) ys
+halted-all {xs = xs} {d = d} g a t ys e y = rw (g .place, e, y, ← g .depth, length-map, length-opened xs d)
 
 -- ---- BREAK, CONTINUE: the lanes t have left the blocks inside the loop numbered l, in ys, and joined its number j, in zs
 module _ (f : Block → Block) (t j : ℕ) (makes : (b : Block) (rest : List ℕ) → set (six b rest) j (bitOr (getD (six b rest) j 0) t) ≡ six (f b) rest) where
@@ -178,19 +179,19 @@ module _ (f : Block → Block) (t j : ℕ) (makes : (b : Block) (rest : List ℕ
   over-loop : (k : Block → Block) (xs : List ℕ) (d : ℕ) → over (toLoop k t (opened xs d)) xs ≡ laid (toLoop k t (opened xs d)) (drop (6 * d) xs)
   over-loop k xs d = rw (length-toLoop k t (opened xs d), length-opened xs d)
 
-  pub set-aside : {h : Hot} {xs : List ℕ} {d p : ℕ} → Begun h xs d p → (ys zs : List ℕ) (l : ℕ)
+  pub set-aside : {h : Hot} {xs : List ℕ} {d p : ℕ} → Begun h xs d p → (a l : ℕ) (ys zs : List ℕ) → a ≡ without (h .active) t
       → l ≡ loopAt (opened xs (min (h .depth) depthLimit))
       → ys ≡ over (toLoop same t (opened xs (min (h .depth) depthLimit))) xs
       → zs ≡ set ys (6 * l + j) (bitOr (getD ys (6 * l + j) 0) t)
-      → Does asideRule h xs (hotAt h p (without (h .active) t) d) zs
-  set-aside {h} {xs} {d} {p} g ys zs l n y z =
+      → Does asideRule h xs (hotAt h p a d) zs
+  set-aside {h} {xs} {d} {p} g a l ys zs e n y z =
       let at : l ≡ loopAt (opened xs d) = rw (← g .depth) at n in
       let left : ys ≡ laid (toLoop same t (opened xs d)) (drop (6 * d) xs) = rw (← g .depth) at y ∙ over-loop same xs d in
       let joined : zs ≡ laid (toLoop f t (opened xs d)) (drop (6 * d) xs) =
       z ∙ rw (left, at)
       (aside-at f t j makes (opened xs d) (drop (6 * d) xs)
       (omega (arith, length-opened xs d, length-drop (6 * d) xs, g .long, g .depth, min-le-right (h .depth) depthLimit))) in
-      becomes g asideRule p _ d (toLoop f t (opened xs d)) zs (rw (g .place)) (sym (length-toLoop f t (opened xs d) ∙ length-opened xs d))
+      becomes g asideRule p _ d (toLoop f t (opened xs d)) zs (rw (g .place, e)) (sym (length-toLoop f t (opened xs d) ∙ length-opened xs d))
       (joined ∙ sym (over-loop f xs d))
 
 -- ---- BARRIER

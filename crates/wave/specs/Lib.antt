@@ -1,5 +1,4 @@
 -- The wave, its control rules, and the numbers that hold it.
-pub mod Sets
 pub mod Layout
 pub mod Wave
 pub mod Rules

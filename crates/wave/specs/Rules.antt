@@ -6,7 +6,7 @@ use lib.ListN.{length}
 use lib.Bits.{bitAnd, bitOr}
 use lib.Dec.{eqb, ltb}
 use Rattle.words.specs.declared.instr.Guard.{Guard}
-use Rattle.wave.specs.Sets.{without}
+use Rattle.lanes.specs.Sets.{without}
 use Rattle.wave.specs.declared.state.Block.{Block}
 use Rattle.wave.specs.Layout.{depthLimit, beforeElse, afterElse, loopPart}
 use Rattle.wave.specs.Wave.{Wave, Preds}

@@ -1,7 +1,7 @@
 // The control rules, each on the hot numbers by value and the lent open blocks. Where a rule finds no block to work on, or no room for one
 // more, it only goes on to the next place.
 use crate::state::Hot;
-use crate::state::Lanes;
+use lanes::Lanes;
 
 pub mod aside;
 pub mod barrier;

@@ -1,10 +1,9 @@
 // The state of a wave: the hot numbers by value, and the open blocks in one array, outermost first, six numbers each in the key's order.
+use lanes::Lanes;
 ghost use mathlib.Core.Path.{_≡_};
 ghost use Prim.Native.Nat.{min};
 ghost use lib.ListN.{length};
 ghost use Rattle.wave.specs.Layout.{depthLimit, pathNumbers};
-
-pub type Lanes = u32;
 
 // At most so many blocks are open.
 pub const DEPTH_LIMIT: u32 = 32;

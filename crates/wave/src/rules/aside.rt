@@ -7,10 +7,11 @@ use crate::state::DEPTH_LIMIT;
 use crate::state::Hot;
 use crate::state::LEFT;
 use crate::state::LOOP;
-use crate::state::Lanes;
 use crate::state::PATH_NUMBERS;
 use crate::state::depth_of;
 use crate::state::whole;
+use lanes::Lanes;
+use lanes::without;
 ghost use mathlib.Core.Path.{_≡_};
 ghost use Prim.Native.Nat.{min};
 ghost use lib.ListN.{set, getD};
@@ -60,10 +61,9 @@ pub(crate) fn break_out(h: Hot, t: Lanes, bl: &mut [u32; PATH_NUMBERS]) -> Hot
     let l = leave_inner(h.depth, t, bl);
     let k = BLOCK_NUMBERS * (l as usize) + ASIDE;
     join_number(k, t, bl);
-    let gone = h.active & t;
     let mut n = h;
     n.place = after_place(h.place);
-    n.active = h.active - gone;
+    n.active = without(h.active, t);
     n.depth = depth_of(h.depth);
     n
 }
@@ -76,10 +76,9 @@ pub(crate) fn go_on(h: Hot, t: Lanes, bl: &mut [u32; PATH_NUMBERS]) -> Hot
     let l = leave_inner(h.depth, t, bl);
     let k = BLOCK_NUMBERS * (l as usize) + AGAIN;
     join_number(k, t, bl);
-    let gone = h.active & t;
     let mut n = h;
     n.place = after_place(h.place);
-    n.active = h.active - gone;
+    n.active = without(h.active, t);
     n.depth = depth_of(h.depth);
     n
 }

@@ -2,10 +2,11 @@
 use crate::rules::Stepped;
 use crate::rules::going::after_place;
 use crate::state::Hot;
-use crate::state::Lanes;
 use crate::state::PATH_NUMBERS;
 use crate::state::depth_of;
 use crate::state::whole;
+use lanes::Lanes;
+use lanes::without;
 ghost use mathlib.Core.Path.{_≡_};
 ghost use Rattle.wave.specs.Wave.{waveOf};
 ghost use Rattle.wave.specs.Rules.{barrierLanes, barrierRule};
@@ -17,8 +18,7 @@ pub(crate) fn meet(h: Hot, all: Lanes, bl: &mut [u32; PATH_NUMBERS]) -> Stepped
 {
     whole(bl);
     let here = h.active | h.halted;
-    let met = all & here;
-    let rest = all - met;
+    let rest = without(all, here);
     let stop = (h.active != 0) & (rest != 0);
     let mut n = h;
     n.depth = depth_of(h.depth);

@@ -1,6 +1,7 @@
 // The executing lanes of an instruction.
 use crate::state::Hot;
-use crate::state::Lanes;
+use lanes::Lanes;
+use lanes::without;
 use words::instr::Guard;
 ghost use mathlib.Core.Path.{_≡_};
 ghost use Rattle.wave.specs.Wave.{predsOf};
@@ -22,6 +23,10 @@ fn holding_lanes(p: u8, h: Hot) -> Lanes
 pub fn executing(g: Guard, h: Hot) -> Lanes
     ensures { λ r. ⌜ r ≡ executingOf g (h .active) (predsOf h) ⌝ }
 {
-    let on = h.active & holding_lanes(g.pred, h);
-    if g.negate { h.active - on } else { on }
+    let on = holding_lanes(g.pred, h);
+    if g.negate {
+        without(h.active, on)
+    } else {
+        h.active & on
+    }
 }

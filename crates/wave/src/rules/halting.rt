@@ -3,10 +3,11 @@ use crate::rules::going::after_place;
 use crate::state::BLOCK_NUMBERS;
 use crate::state::Hot;
 use crate::state::LEFT;
-use crate::state::Lanes;
 use crate::state::PATH_NUMBERS;
 use crate::state::depth_of;
 use crate::state::whole;
+use lanes::Lanes;
+use lanes::without;
 ghost use mathlib.Core.Path.{_≡_};
 ghost use Rattle.wave.specs.Wave.{Does};
 ghost use Rattle.wave.specs.Rules.{haltRule};
@@ -23,10 +24,9 @@ pub(crate) fn halt(h: Hot, t: Lanes, bl: &mut [u32; PATH_NUMBERS]) -> Hot
         let k = BLOCK_NUMBERS * (i as usize) + LEFT;
         bl[k] = bl[k] | t;
     }
-    let gone = h.active & t;
     let mut n = h;
     n.place = after_place(h.place);
-    n.active = h.active - gone;
+    n.active = without(h.active, t);
     n.halted = h.halted | t;
     n.depth = d;
     n

@@ -10,11 +10,12 @@ use crate::state::ENTERED;
 use crate::state::Hot;
 use crate::state::LEFT;
 use crate::state::LOOP;
-use crate::state::Lanes;
 use crate::state::OPENER;
 use crate::state::PATH_NUMBERS;
 use crate::state::depth_of;
 use crate::state::whole;
+use lanes::Lanes;
+use lanes::without;
 ghost use mathlib.Core.Path.{_≡_};
 ghost use Prim.Native.Nat.{_<_};
 ghost use Rattle.wave.specs.Layout.{depthLimit, put};
@@ -41,11 +42,10 @@ pub(crate) fn open_if(h: Hot, t: Lanes, bl: &mut [u32; PATH_NUMBERS]) -> Hot
 {
     whole(bl);
     let d = depth_of(h.depth);
-    let go = h.active & t;
-    let wait = h.active - go;
+    let wait = without(h.active, t);
     let mut n = h;
     n.place = after_place(h.place);
-    n.active = go;
+    n.active = h.active & t;
     n.depth = d;
     if d == DEPTH_LIMIT {
         return n;

@@ -1,6 +1,5 @@
 -- CONTINUE: the search marks the blocks inside the loop, and one store sets the lanes aside in it, as continued.
 use mathlib.Core.Path.{refl}
-use lib.Bits.{and-le-l}
 use Rattle.wave.specs.Rules.{continued}
 use Rattle.wave.proofs.Ruling.{set-aside}
 use borrow.Author.Needs.{needs}
@@ -28,18 +27,18 @@ join-number-requires c κs = search needs
 after-place-requires : tie.Need-after-place-requires
 after-place-requires c κs = search needs
 
-sub-n : tie.Need-sub-n
-sub-n c = and-le-l _ _
+without-requires : tie.Need-without-requires
+without-requires c κs = search needs
 
 depth-of-requires : tie.Need-depth-of-requires
 depth-of-requires c κs = search needs
 
 returns : tie.Need-returns
-returns c = let s = c .before .before .before .before .before .before .before .before .before .before .args in
-    let found = c .before .before .before .before .before .before .leave-inner .ensures in
+returns c = let s = c .before .before .before .before .before .before .before .before .before .args in
+    let found = c .before .before .before .before .before .leave-inner .ensures in
     set-aside (continued (s .t)) (s .t) 4 (λ b rest. refl) {h = s .h}
-    (record { long = c .before .before .before .before .before .before .before .before .whole .ensures; depth = c .depth-of .ensures; place = c .before .before .after-place .ensures }) _ _ _
-    (found .0) (found .1) (c .before .before .before .before .join-number .ensures)
+    (record { long = c .before .before .before .before .before .before .before .whole .ensures; depth = c .depth-of .ensures; place = c .before .before .after-place .ensures }) _ _ _ _
+    (c .before .without .ensures) (found .0) (found .1) (c .before .before .before .join-number .ensures)
 
 pub go-on-spec : {M : Type 1} → statement M
 go-on-spec =
@@ -52,6 +51,6 @@ go-on-spec =
     add-k
     join-number-requires
     after-place-requires
-    sub-n
+    without-requires
     depth-of-requires
     returns)

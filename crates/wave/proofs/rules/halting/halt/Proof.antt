@@ -5,7 +5,6 @@ use Prim.Native.Nat.{_≤_}
 use native.Mathlib.Nat.{min-le-right}
 use native.Mathlib.Omega.{arith}
 use lib.ListN.{length, length-set}
-use lib.Bits.{and-le-l}
 use Rattle.wave.specs.Layout.{depthLimit, pathNumbers}
 use Rattle.wave.specs.Rules.{leave}
 use Rattle.wave.proofs.Ruling.{halted-all}
@@ -62,14 +61,14 @@ loop-again c = let l = c .before .before .loop in
 after-place-requires : tie.Need-after-place-requires Inv-loop μ-loop
 after-place-requires c κs = tt
 
-sub-n : tie.Need-sub-n Inv-loop μ-loop
-sub-n c = and-le-l _ _
+without-requires : tie.Need-without-requires Inv-loop μ-loop
+without-requires c κs = tt
 
 returns : tie.Need-returns Inv-loop μ-loop
-returns c = let l = c .before .before .before .before .before .loop in
-    let s = c .before .before .before .before .before .before .before .before .before .args in
-    halted-all {h = s .h} (record { long = c .before .before .before .before .before .before .before .whole .ensures; depth = c .before .before .before .before .before .before .depth-of .ensures; place = c .before .before .after-place .ensures }) _ (s .t)
-    (sym (walked-none (map (leave (s .t))) (l .bl) (l .i) refl (omega arith)) ∙ l .inv .2)
+returns c = let l = c .before .before .before .before .loop in
+    let s = c .before .before .before .before .before .before .before .before .args in
+    halted-all {h = s .h} (record { long = c .before .before .before .before .before .before .whole .ensures; depth = c .before .before .before .before .before .depth-of .ensures; place = c .before .before .after-place .ensures }) _ (s .t) _
+    (c .before .without .ensures) (sym (walked-none (map (leave (s .t))) (l .bl) (l .i) refl (omega arith)) ∙ l .inv .2)
 
 pub halt-spec : {M : Type 1} → statement M
 halt-spec =
@@ -91,5 +90,5 @@ halt-spec =
     loop-less
     loop-again
     after-place-requires
-    sub-n
+    without-requires
     returns)

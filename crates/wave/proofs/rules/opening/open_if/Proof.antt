@@ -1,7 +1,5 @@
 -- IF: six stores put one block more above the open ones, where there is room.
 use mathlib.Core.Path.{refl}
-use lib.Bits.{and-le-l}
-use Rattle.wave.specs.Sets.{without}
 use Rattle.wave.specs.declared.state.Block.{Block}
 use Rattle.wave.specs.Layout.{beforeElse}
 use Rattle.wave.specs.Rules.{ifRule, opening}
@@ -11,12 +9,12 @@ use Rattle.wave.proofs.rules.opening.open_if.Statement.{statement}
 use Rattle.wave.proofs.rules.opening.open_if.Tie as tie
 
 -- what is read before any block is looked at
-begun : (z : tie.After-after-place) → Begun (z .before .before .before .before .before .before .args .h) (z .before .before .before .before .before .before .args .bl .now) (z .before .before .before .depth-of .result) (z .after-place .result)
-begun z = record { long = z .before .before .before .before .whole .ensures; depth = z .before .before .before .depth-of .ensures; place = z .after-place .ensures }
+begun : (z : tie.After-after-place) → Begun (z .before .before .before .before .before .args .h) (z .before .before .before .before .before .args .bl .now) (z .before .before .depth-of .result) (z .after-place .result)
+begun z = record { long = z .before .before .before .whole .ensures; depth = z .before .before .depth-of .ensures; place = z .after-place .ensures }
 
 -- the block that it opens
-abbrev block : tie.Start → Block
-block s = opening beforeElse (s .args .h .place) (s .args .h .active) (without (s .args .h .active) (s .args .t))
+abbrev block : tie.After-after-place → Block
+block z = let h = z .before .before .before .before .before .args .h in opening beforeElse (h .place) (h .active) (z .before .without .result)
 
 whole-requires : tie.Need-whole-requires
 whole-requires c κs = search needs
@@ -24,14 +22,14 @@ whole-requires c κs = search needs
 depth-of-requires : tie.Need-depth-of-requires
 depth-of-requires c κs = search needs
 
-sub-wait : tie.Need-sub-wait
-sub-wait c = and-le-l _ _
+without-requires : tie.Need-without-requires
+without-requires c κs = search needs
 
 after-place-requires : tie.Need-after-place-requires
 after-place-requires c κs = search needs
 
 returns : tie.Need-returns
-returns c = let s = c .before .before .before .before .before .before .before in full (begun (c .before)) (ifRule (s .args .t)) _ (block s) (c .if1 .taken) refl
+returns c = let z = c .before .before in full (begun z) (ifRule (z .before .before .before .before .before .args .t)) _ (block z) (c .if1 .taken) (rw (z .before .without .ensures))
 
 put-block-requires : tie.Need-put-block-requires
 put-block-requires c κs = search needs
@@ -40,7 +38,7 @@ add-n : tie.Need-add-n
 add-n c = search needs
 
 returns-2 : tie.Need-returns-2
-returns-2 c = let s = c .before .before .before .before .before .before .before .before .before in opened-one (begun (c .before .before .before)) (ifRule (s .args .t)) _ (block s) (c .before .before .if1 .left) refl _ (c .put-block .ensures)
+returns-2 c = let z = c .before .before .before .before in opened-one (begun z) (ifRule (z .before .before .before .before .before .args .t)) _ (block z) (c .before .before .if1 .left) (rw (z .before .without .ensures)) _ (c .put-block .ensures)
 
 pub open-if-spec : {M : Type 1} → statement M
 open-if-spec =
@@ -48,7 +46,7 @@ open-if-spec =
     (tie.spec
     whole-requires
     depth-of-requires
-    sub-wait
+    without-requires
     after-place-requires
     returns
     put-block-requires
