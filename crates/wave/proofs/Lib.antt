@@ -1,3 +1,5 @@
 pub mod Laying
 pub mod Walks
 pub mod Ruling
+pub mod View
+pub mod Tidying

@@ -1,8 +1,9 @@
 -- The wave and its predicates, and the numbers that hold them.
 use mathlib.Core.Path.{_≡_}
-use mathlib.Core.List.{List}
+use mathlib.Core.List.{List, []}
 use Prim.Native.Nat.{ℕ, min}
 use lib.ListN.{length}
+use Rattle.lanes.specs.Sets.{first}
 use Rattle.wave.specs.declared.state.Block.{Block}
 use Rattle.wave.specs.declared.state.Hot.{Hot}
 use Rattle.wave.specs.declared.state.State.{State}
@@ -48,6 +49,13 @@ stateOf w ps = record { hot = hotOf w ps; blocks = arrayOf (w .path) }
 
 abbrev pub waveIn : State → Wave
 waveIn s = waveOf (s .hot) (s .blocks)
+
+-- a launch makes the lanes 0 to n-1 active, opens no block, and clears the predicates
+abbrev pub launch : ℕ → Wave
+launch n = record { place = 0; active = first n; halted = 0; path = [] }
+
+abbrev pub clear : Preds
+clear = record { p1 = 0; p2 = 0; p3 = 0 }
 
 -- what the code holds: the hot numbers, and the lent array
 pub record Held : Type 0 where

@@ -1,4 +1,5 @@
 // The wave: its state, the control rules, and when a handed-in state fits.
 pub mod control;
+pub mod launch;
 pub mod rules;
 pub mod state;

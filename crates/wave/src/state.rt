@@ -3,7 +3,8 @@ use lanes::Lanes;
 ghost use mathlib.Core.Path.{_≡_};
 ghost use Prim.Native.Nat.{min};
 ghost use lib.ListN.{length};
-ghost use Rattle.wave.specs.Layout.{depthLimit, pathNumbers};
+ghost use Rattle.wave.specs.Layout.{depthLimit, pathNumbers, arrayOf};
+ghost use Rattle.wave.specs.Wave.{waveOf, predsOf, hotOf, held};
 
 // At most so many blocks are open.
 pub const DEPTH_LIMIT: u32 = 32;
@@ -80,4 +81,20 @@ pub fn whole(bl: &[u32; PATH_NUMBERS])
     ensures { λ r. ⌜ length (now (bl .entry)) ≡ pathNumbers ⌝ }
 {
     len_of(bl);
+}
+
+// The numbers past the open blocks become zero, and a depth over 32 becomes 32, so that every number of the state is fixed by its wave.
+pub fn tidy(h: Hot, bl: &mut [u32; PATH_NUMBERS]) -> Hot
+    ensures { λ r. ⌜ held r (now (bl .exit)) ≡ held (hotOf (waveOf h (now (bl .entry))) (predsOf h)) (arrayOf (waveOf h (now (bl .entry)) .path)) ⌝ }
+{
+    whole(bl);
+    let d = depth_of(h.depth);
+    let mut k = BLOCK_NUMBERS * (d as usize);
+    while k < PATH_NUMBERS {
+        bl[k] = 0;
+        k += 1;
+    }
+    let mut n = h;
+    n.depth = d;
+    n
 }
