@@ -3,3 +3,4 @@ pub mod Walks
 pub mod Ruling
 pub mod View
 pub mod Tidying
+pub mod Testing

@@ -1,0 +1,2 @@
+// Whether a handed-in state fits.
+pub mod sets;
