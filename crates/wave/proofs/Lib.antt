@@ -4,3 +4,5 @@ pub mod Ruling
 pub mod View
 pub mod Tidying
 pub mod Testing
+pub mod AtLane
+pub mod Fitting
