@@ -6,3 +6,4 @@ pub mod Tidying
 pub mod Testing
 pub mod AtLane
 pub mod Fitting
+pub mod Keeps

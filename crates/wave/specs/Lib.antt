@@ -6,3 +6,4 @@ pub mod Search
 pub mod Control
 pub mod Fits
 pub mod FitsTest
+pub mod Ready
