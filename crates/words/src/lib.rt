@@ -38,6 +38,7 @@ ghost use Rattle.words.specs.Words.{
 };
 
 pub mod instr;
+pub mod registers;
 
 use crate::instr::AtomicOp;
 use crate::instr::CompareOp;

@@ -1,0 +1,73 @@
+-- What stands at a place of checked code is an instruction that reading gives, with its registers in bounds.
+use Prim.Native.Nat.{ℕ, _<_}
+use mathlib.Core.Path.{_≡_, refl, sym, ap, _∙_, subst}
+use mathlib.Core.Bool.{Bool, true, false, cond}
+use mathlib.Core.List.{List}
+use lib.ListN.{length}
+use Rattle.words.specs.declared.instr.Instr.{Instr}
+use Rattle.words.specs.declared.instr.ReadAnswer.{ReadAnswer}
+use Rattle.words.specs.Words.{limitsOf, sizeOf, readAt}
+use Rattle.words.specs.Registers.{registersBelow}
+use Rattle.blocks.specs.declared.item.Item.{Item}
+use Rattle.blocks.specs.declared.structure.Checked.the-variants.{Fine}
+use Rattle.blocks.specs.Item.{itemOf, seen, itemAt}
+use Rattle.blocks.specs.Code.{Code, codeOf}
+use Rattle.blocks.specs.Scan.{Open, checkOf}
+use Rattle.blocks.specs.OpenAt.{there, openAt}
+use Rattle.blocks.proofs.Widths.{Wide, read-wide, code-fits}
+use Rattle.blocks.proofs.Theorems.{Allowed, allowed}
+
+-- an instruction that is read at a place, its width, and what the blocks see of it
+pub record Instruction (words : List ℕ) (registers at : ℕ) : Type 0 where
+  pub instr : Instr
+  pub width : ℕ
+  pub reads : readAt words at ≡ ReadAnswer.Read instr width
+  pub below : registersBelow registers instr ≡ true
+  pub wide : width ≡ sizeOf (limitsOf (instr .op) .second)
+  pub item-is : itemAt words registers at ≡ itemOf (instr .op) width
+
+abbrev NotBad : Item → Type 0
+NotBad (Item.Plain w) = Unit {0}
+NotBad Item.If = Unit {0}
+NotBad Item.Else = Unit {0}
+NotBad Item.Endif = Unit {0}
+NotBad Item.Loop = Unit {0}
+NotBad Item.Jump = Unit {0}
+NotBad Item.Endloop = Unit {0}
+NotBad (Item.Bad n) = ⊥
+
+not-bad : (code : Code) (i : Item) (at : ℕ) (o : List Open) → Allowed code i at o → NotBad i
+not-bad code (Item.Plain w) at o a = tt
+not-bad code Item.If at o a = tt
+not-bad code Item.Else at o a = tt
+not-bad code Item.Endif at o a = tt
+not-bad code Item.Loop at o a = tt
+not-bad code Item.Jump at o a = tt
+not-bad code Item.Endloop at o a = tt
+not-bad code (Item.Bad n) at o a = a
+
+module _ (words : List ℕ) (registers at : ℕ) where
+  below-seen : (i : Instr) (n : ℕ) → readAt words at ≡ ReadAnswer.Read i n → (b : Bool) → registersBelow registers i ≡ b
+      → NotBad (cond b (itemOf (i .op) n) (Item.Bad 7)) → Instruction words registers at
+  unfolding itemAt
+  below-seen i n e true f ok =
+      record {
+        instr = i;
+        width = n;
+        reads = e;
+        below = f;
+        wide = subst (Wide at (length words)) e (read-wide words at) .0;
+        item-is = ap (seen registers) e ∙ ap (λ (b : Bool). cond b (itemOf (i .op) n) (Item.Bad 7)) f;
+      }
+  below-seen i n e false f ok = absurd ok
+
+  read-seen : (a : ReadAnswer) → readAt words at ≡ a → NotBad (seen registers a) → Instruction words registers at
+  read-seen (ReadAnswer.Read i n) e ok = below-seen i n e (registersBelow registers i) refl ok
+  read-seen (ReadAnswer.Refused n) e ok = absurd ok
+
+  pub instruction-there : checkOf (codeOf words registers) ≡ Fine → (o : List Open) → openAt (codeOf words registers) at ≡ there o → at < length words
+      → Instruction words registers at
+  unfolding itemAt
+  instruction-there checked o here h =
+      read-seen (readAt words at) refl
+      (not-bad (codeOf words registers) (itemAt words registers at) at o (allowed (codeOf words registers) (code-fits words registers) checked at o here h))

@@ -1,0 +1,15 @@
+-- Code as the rules of blocks see it.
+use Prim.Native.Nat.{ℕ}
+use mathlib.Core.List.{List}
+use lib.ListN.{length}
+use Rattle.blocks.specs.declared.item.Item.{Item}
+use Rattle.blocks.specs.Item.{itemAt}
+
+-- what stands at each place, and the number of words
+pub record Code : Type 0 where
+  pub item : ℕ → Item
+  pub size : ℕ
+
+-- these words, for a number of registers
+abbrev pub codeOf : List ℕ → ℕ → Code
+codeOf words registers = record { item = itemAt words registers; size = length words }

@@ -1,0 +1,45 @@
+-- What the blocks see of an instruction: plain with a width, one of the block instructions, or refused with a number.
+use Prim.Native.Nat.{ℕ}
+use mathlib.Core.Bool.{cond}
+use mathlib.Core.List.{List}
+use Rattle.words.specs.declared.instr.ControlOp.{ControlOp}
+use Rattle.words.specs.declared.instr.Op.{Op}
+use Rattle.words.specs.declared.instr.ReadAnswer.{ReadAnswer}
+use Rattle.words.specs.Words.{readAt}
+use Rattle.words.specs.Registers.{registersBelow}
+use Rattle.blocks.specs.declared.item.Item.{Item}
+
+-- a control instruction, which is one word; HALT, BARRIER and NOP have no part in blocks
+abbrev pub controlItem : ControlOp → Item
+controlItem ControlOp.If = Item.If
+controlItem ControlOp.Else = Item.Else
+controlItem ControlOp.Endif = Item.Endif
+controlItem ControlOp.Loop = Item.Loop
+controlItem ControlOp.Break = Item.Jump
+controlItem ControlOp.Continue = Item.Jump
+controlItem ControlOp.Endloop = Item.Endloop
+controlItem ControlOp.Halt = Item.Plain 1
+controlItem ControlOp.Barrier = Item.Plain 1
+controlItem ControlOp.Nop = Item.Plain 1
+
+-- an instruction of an operation and a width
+abbrev pub itemOf : Op → ℕ → Item
+itemOf (Op.Two o) width = Item.Plain width
+itemOf (Op.Compare o) width = Item.Plain width
+itemOf (Op.One o) width = Item.Plain width
+itemOf Op.Special width = Item.Plain width
+itemOf Op.Number width = Item.Plain width
+itemOf (Op.Load s) width = Item.Plain width
+itemOf (Op.Store s) width = Item.Plain width
+itemOf (Op.Atomic o) width = Item.Plain width
+itemOf Op.Cas width = Item.Plain width
+itemOf (Op.Control o) width = controlItem o
+
+-- what was read, for a number of registers: refusals 4 to 6 as they are, then 7
+abbrev pub seen : ℕ → ReadAnswer → Item
+seen registers (ReadAnswer.Read instr width) = cond (registersBelow registers instr) (itemOf (instr .op) width) (Item.Bad 7)
+seen registers (ReadAnswer.Refused number) = Item.Bad number
+
+-- what stands at a place of the code
+unfoldable pub itemAt : List ℕ → ℕ → ℕ → Item
+itemAt code registers at = seen registers (readAt code at)

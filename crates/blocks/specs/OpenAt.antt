@@ -1,0 +1,66 @@
+-- Which blocks are open at a place, and whether an instruction starts or the code ends there.
+use Prim.Native.Nat.{ℕ, zero, suc, _+_}
+use mathlib.Core.Bool.{true, false, cond}
+use mathlib.Core.List.{List, [], _∷_}
+use lib.ListN.{length, replicate, set}
+use lib.Dec.{eqb}
+use Rattle.blocks.specs.declared.places.Stack.{Stack}
+use Rattle.blocks.specs.declared.places.OpenAt.{OpenAt}
+use Rattle.blocks.specs.Code.{Code}
+use Rattle.blocks.specs.Scan.{nesting, Part, before, after, looping, Open, open-at, carry, step}
+
+pub data Found : Type 0 where
+  nowhere : Found
+  there : List Open → Found
+
+-- at most n instructions from `at` on, to the place
+unfoldable pub seek : Code → ℕ → ℕ → ℕ → List Open → Found
+seek code place zero at o = cond (eqb at place) (there o) nowhere
+seek code place (suc n) at o = cond (eqb at place) (there o) (carry (λ v. nowhere) (seek code place n) (step code at o))
+
+-- the walk from `at` to the place
+unfoldable pub walk : Code → ℕ → ℕ → List Open → Found
+walk code place at o = seek code place (code .size) at o
+
+-- the open blocks at a place, innermost first; nowhere if the pass does not come by it: a second word, past the end, or behind a refusal
+abbrev pub openAt : Code → ℕ → Found
+openAt code place = walk code place 0 []
+
+-- the page's number of a part: 1 before ELSE, 2 after, 3 loop
+abbrev pub part-number : Part → ℕ
+part-number before = 1
+part-number after = 2
+part-number looping = 3
+
+abbrev pub number-of : Open → ℕ
+number-of (open-at part p) = part-number part
+
+abbrev pub opener-of : Open → ℕ
+opener-of (open-at part p) = p
+
+-- an open block as a state has it: its part's number and its opener
+abbrev pub numbered : Open → ℕ × ℕ
+numbered b = (number-of b, opener-of b)
+
+abbrev pub one-if-loop : Part → ℕ → ℕ
+one-if-loop before n = n
+one-if-loop after n = n
+one-if-loop looping n = n + 1
+
+-- how many of the open blocks are loops
+unfoldable pub loops : List Open → ℕ
+loops [] = 0
+loops (open-at part p ∷ o) = one-if-loop part (loops o)
+
+-- a number of each open block, the outermost at 0, and 0 past them
+unfoldable pub filled : (Open → ℕ) → List Open → List ℕ
+filled f [] = replicate nesting 0
+filled f (b ∷ o) = set (filled f o) (length o) (f b)
+
+-- the open blocks as `open_at` answers them
+abbrev pub stackOf : List Open → Stack
+stackOf o = record { depth = length o; loops = loops o; parts = filled number-of o; openers = filled opener-of o }
+
+abbrev pub shown : Found → OpenAt
+shown nowhere = record { found = false; stack = stackOf [] }
+shown (there o) = record { found = true; stack = stackOf o }

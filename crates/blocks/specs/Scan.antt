@@ -1,0 +1,106 @@
+-- The check of the code, in one pass with the list of open blocks, innermost first.
+-- Instruction by instruction it meets refusals 4 to 7 of the instruction itself, then 8 and 9, and at the end of the code 10.
+use Prim.Native.Nat.{ℕ, zero, suc, _+_}
+use mathlib.Core.Bool.{Bool, true, false, cond}
+use mathlib.Core.List.{List, [], _∷_}
+use lib.ListN.{length}
+use lib.Dec.{ltb}
+use Rattle.blocks.specs.declared.item.Item.{Item}
+use Rattle.blocks.specs.declared.structure.Checked.{Checked}
+use Rattle.blocks.specs.declared.structure.Checked.the-variants.{Fine, Refused}
+use Rattle.blocks.specs.Code.{Code}
+
+-- the room for nesting
+abbrev pub nesting : ℕ
+nesting = 32
+
+-- the part of a block that a place stands in: an IF before its ELSE, an IF after it, a loop
+pub data Part : Type 0 where
+  before : Part
+  after : Part
+  looping : Part
+
+-- an open block: its part and the place of its opener
+pub data Open : Type 0 where
+  open-at : Part → ℕ → Open
+
+-- what comes of one instruction: the pass is over, or goes on at a place with these blocks open
+pub data Next : Type 0 where
+  over : Checked → Next
+  go : ℕ → List Open → Next
+
+-- refusal 8: a stray ELSE, ENDIF, ENDLOOP, BREAK or CONTINUE
+abbrev pub stray : ℕ → Next
+stray at = over (Refused 8 at)
+
+-- IF and LOOP open a block; refusal 9: a 33rd
+abbrev pub opens : Part → ℕ → List Open → Next
+opens part at o = cond (ltb (length o) nesting) (go (at + 1) (open-at part at ∷ o)) (over (Refused 9 at))
+
+-- ELSE stands directly in its IF, once
+abbrev pub elses : ℕ → List Open → Next
+elses at [] = stray at
+elses at (open-at before p ∷ o) = go (at + 1) (open-at after p ∷ o)
+elses at (open-at after p ∷ o) = stray at
+elses at (open-at looping p ∷ o) = stray at
+
+-- ENDIF closes an IF
+abbrev pub ends-if : ℕ → List Open → Next
+ends-if at [] = stray at
+ends-if at (open-at before p ∷ o) = go (at + 1) o
+ends-if at (open-at after p ∷ o) = go (at + 1) o
+ends-if at (open-at looping p ∷ o) = stray at
+
+-- ENDLOOP closes a loop
+abbrev pub ends-loop : ℕ → List Open → Next
+ends-loop at [] = stray at
+ends-loop at (open-at before p ∷ o) = stray at
+ends-loop at (open-at after p ∷ o) = stray at
+ends-loop at (open-at looping p ∷ o) = go (at + 1) o
+
+-- is there a loop among the open blocks?
+unfoldable pub in-loop : List Open → Bool
+in-loop [] = false
+in-loop (open-at before p ∷ o) = in-loop o
+in-loop (open-at after p ∷ o) = in-loop o
+in-loop (open-at looping p ∷ o) = true
+
+-- BREAK and CONTINUE stand inside some loop, at any depth of IF
+abbrev pub jumps : ℕ → List Open → Next
+jumps at o = cond (in-loop o) (go (at + 1) o) (stray at)
+
+-- what an instruction at a place does to the open blocks
+unfoldable pub react : Item → ℕ → List Open → Next
+react (Item.Plain width) at o = go (at + width) o
+react Item.If at o = opens before at o
+react Item.Else at o = elses at o
+react Item.Endif at o = ends-if at o
+react Item.Loop at o = opens looping at o
+react Item.Jump at o = jumps at o
+react Item.Endloop at o = ends-loop at o
+react (Item.Bad number) at o = over (Refused number at)
+
+-- the end of the code; refusal 10: a block is open there
+unfoldable pub ended : List Open → Checked
+ended [] = Fine
+ended (open-at part p ∷ o) = Refused 10 p
+
+unfoldable pub step : Code → ℕ → List Open → Next
+step code at o = cond (ltb at (code .size)) (react (code .item at) at o) (over (ended o))
+
+abbrev pub carry : {A : Type 0} → (Checked → A) → (ℕ → List Open → A) → Next → A
+carry f g (over v) = f v
+carry f g (go at o) = g at o
+
+-- at most n instructions from a place on, with these blocks open
+unfoldable pub scan : Code → ℕ → ℕ → List Open → Checked
+scan code zero at o = ended o
+scan code (suc n) at o = carry (λ v. v) (scan code n) (step code at o)
+
+-- the rest of the pass: code has no more instructions than words
+unfoldable pub run : Code → ℕ → List Open → Checked
+run code at o = scan code (code .size) at o
+
+-- the whole pass
+abbrev pub checkOf : Code → Checked
+checkOf code = run code 0 []

@@ -1,0 +1,72 @@
+// What the blocks see of an instruction. No other part of this crate looks at a word.
+use words::instr::ControlOp;
+use words::instr::Op;
+use words::instr::ReadAnswer;
+ghost use mathlib.Core.Path.{_≡_};
+ghost use Rattle.blocks.specs.Item.{controlItem, itemOf, itemAt};
+
+// An instruction as far as blocks go: its width where it has no part in them, and the refusal where it is none. BREAK and CONTINUE are jumps.
+pub enum Item {
+    Plain(usize),
+    If,
+    Else,
+    Endif,
+    Loop,
+    Jump,
+    Endloop,
+    Bad(u32),
+}
+
+// What a control instruction is to the blocks.
+fn control_item(op: ControlOp) -> Item
+    ensures { λ r. ⌜ r ≡ controlItem op ⌝ }
+{
+    match op {
+        ControlOp::If => Item::If,
+        ControlOp::Else => Item::Else,
+        ControlOp::Endif => Item::Endif,
+        ControlOp::Loop => Item::Loop,
+        ControlOp::Break => Item::Jump,
+        ControlOp::Continue => Item::Jump,
+        ControlOp::Endloop => Item::Endloop,
+        ControlOp::Halt => Item::Plain(1),
+        ControlOp::Barrier => Item::Plain(1),
+        ControlOp::Nop => Item::Plain(1),
+    }
+}
+
+// What an instruction of an operation and a width is to the blocks.
+fn item_of(op: Op, width: usize) -> Item
+    ensures { λ r. ⌜ r ≡ itemOf op width ⌝ }
+{
+    match op {
+        Op::Two(_) => Item::Plain(width),
+        Op::Compare(_) => Item::Plain(width),
+        Op::One(_) => Item::Plain(width),
+        Op::Special => Item::Plain(width),
+        Op::Number => Item::Plain(width),
+        Op::Load(_) => Item::Plain(width),
+        Op::Store(_) => Item::Plain(width),
+        Op::Atomic(_) => Item::Plain(width),
+        Op::Cas => Item::Plain(width),
+        Op::Control(control) => control_item(control),
+    }
+}
+
+// What stands at a place of the code, for a number of registers: refusals 4 to 6 as reading gives them (5 past the end), then 7.
+pub fn look(code: &[u32], registers: u32, at: usize) -> Item
+    ensures { λ r. ⌜ r ≡ itemAt (now (code .entry)) registers at ⌝ }
+{
+    let answer = words::read(code, at);
+    match answer {
+        ReadAnswer::Read { instr, words } => {
+            if words::registers::registers_below(instr, registers) {
+                let op = instr.op;
+                item_of(op, words)
+            } else {
+                Item::Bad(7)
+            }
+        }
+        ReadAnswer::Refused { rule } => Item::Bad(rule as u32),
+    }
+}

@@ -1,0 +1,77 @@
+// The check of a kernel's code: refusals 4 to 10. The instructions of a level are gone through in order; an inner block is a level of its own.
+use crate::item;
+use crate::rules;
+use crate::rules::Inside;
+use crate::rules::NESTING;
+use crate::rules::Turn;
+ghost use mathlib.Core.Path.{_≡_};
+ghost use Prim.Native.Nat.{_≤_};
+ghost use lib.ListN.{length};
+ghost use Rattle.blocks.specs.Code.{codeOf};
+ghost use Rattle.blocks.specs.Scan.{checkOf};
+ghost use Rattle.blocks.specs.Levels.{LevelSays};
+
+// How a level ends: closed, with the place after its end; refused, with the rule's number and the place; or by the end of the code.
+pub enum BlockEnd {
+    Closed(usize),
+    Refused(u32, usize),
+    Ended,
+}
+
+// Whether code passes, or the number of the first broken rule and its place.
+pub enum Checked {
+    Fine,
+    Refused(u32, usize),
+}
+
+// One level, from a place on, where so much room is left. A block opened in it is checked by a call of this function, with one less of room.
+fn level(code: &[u32], registers: u32, from: usize, room: usize, inside: Inside, in_loop: bool) -> BlockEnd
+    requires { ⌜ from ≤ length (now code) ⌝ }
+    ensures { λ r. ⌜ LevelSays (codeOf (now (code .entry)) registers) from room inside in_loop r ⌝ }
+{
+    let mut at = from;
+    let mut part = inside;
+    while at < code.len() {
+        let item = item::look(code, registers, at);
+        let turn = rules::judge(item, room, part, in_loop);
+        match turn {
+            Turn::Go(width, next) => {
+                at = at + width;
+                part = next;
+            }
+            Turn::Close => {
+                return BlockEnd::Closed(at + 1);
+            }
+            Turn::Stop(number) => {
+                return BlockEnd::Refused(number, at);
+            }
+            Turn::Enter(inner, looped) => {
+                let end = level(code, registers, at + 1, room - 1, inner, looped);
+                match end {
+                    BlockEnd::Closed(next) => {
+                        at = next;
+                    }
+                    BlockEnd::Refused(number, place) => {
+                        return BlockEnd::Refused(number, place);
+                    }
+                    BlockEnd::Ended => {
+                        return BlockEnd::Refused(10, at);
+                    }
+                }
+            }
+        }
+    }
+    BlockEnd::Ended
+}
+
+// Whether code is well built for a number of registers: refusals 4 to 9 instruction by instruction, then 10; the first broken rule in reading order.
+pub fn check(code: &[u32], registers: u32) -> Checked
+    ensures { λ r. ⌜ r ≡ checkOf (codeOf (now (code .entry)) registers) ⌝ }
+{
+    let end = level(code, registers, 0, NESTING, Inside::Nothing, false);
+    match end {
+        BlockEnd::Closed(_) => Checked::Fine,
+        BlockEnd::Refused(number, place) => Checked::Refused(number, place),
+        BlockEnd::Ended => Checked::Fine,
+    }
+}

@@ -1,0 +1,36 @@
+-- Which fields of an instruction are registers, and refusal 7's test of them.
+use mathlib.Core.Bool.{Bool, true, false, not, _&&_, _||_}
+use Prim.Native.Nat.{ℕ}
+use lib.Dec.{ltb}
+use Rattle.words.specs.declared.instr.Op.{Op}
+use Rattle.words.specs.declared.instr.Instr.{Instr}
+use Rattle.words.specs.declared.registers.Registers.{Registers}
+
+abbrev pub registers : Bool → Bool → Bool → Bool → Registers
+registers d a b c = record { rd = d; rs1 = a; rs2 = b; rs3 = c }
+
+-- RD, RS1, RS2, RS3. RD of a comparison names a predicate, RS1 of MOV_SPECIAL is a special number; a store has the stored register in RD.
+abbrev pub registersOf : Op → Registers
+registersOf (Op.Two o) = registers true true true false
+registersOf (Op.Compare o) = registers false true true false
+registersOf (Op.One o) = registers true true false false
+registersOf Op.Special = registers true false false false
+registersOf Op.Number = registers true false false false
+registersOf (Op.Load s) = registers true true false false
+registersOf (Op.Store s) = registers true true false false
+registersOf (Op.Atomic o) = registers true true true false
+registersOf Op.Cas = registers true true true true
+registersOf (Op.Control o) = registers false false false false
+
+-- a field that is a register is below R
+abbrev pub below : ℕ → Bool → ℕ → Bool
+below R used field = not used || ltb field R
+
+-- every field that is a register is below R
+abbrev pub allBelow : ℕ → Registers → Instr → Bool
+allBelow R used i =
+    below R (used .rd) (i .rd) && below R (used .rs1) (i .rs1) && below R (used .rs2) (i .rs2) && below R (used .rs3) (i .rs3)
+
+-- every register of an instruction is below R: otherwise it is refused with 7
+abbrev pub registersBelow : ℕ → Instr → Bool
+registersBelow R i = allBelow R (registersOf (i .op)) i
