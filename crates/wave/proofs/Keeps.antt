@@ -14,7 +14,7 @@ use Rattle.words.specs.declared.instr.ControlOp.the-variants.{If, Else, Endif, 
 use Rattle.lanes.specs.Sets.{bit, without, first}
 use Rattle.lanes.proofs.Bits.{bit-le, bit-zero, bit-and, bit-or, bit-without, set-ext}
 use Rattle.wave.specs.declared.state.Block.{Block}
-use Rattle.wave.specs.Layout.{depthLimit}
+use Rattle.blocks.specs.Scan.{nesting}
 use Rattle.wave.specs.Wave.{Wave, Preds, launch, clear}
 use Rattle.wave.specs.Rules.{
   isLoop,
@@ -104,7 +104,7 @@ keeps-at : (op : ControlOp) (l all t i : ℕ) (w : Wave) → Ready op (w .path) 
     → WaveFits l i (controlRule op all t w)
 unfolding controlRule Ready
 keeps-at If l all t i w r v f =
-    rw (lt-ltb (length (w .path)) depthLimit r) (
+    rw (lt-ltb (length (w .path)) nesting r) (
       simp (bit-and, bit-without, bit-zero) (omega arith),
       (λ x. bit-zero i),
       omega (arith, launched l (w .halted) i _ (w .path) f),
@@ -113,7 +113,7 @@ keeps-at If l all t i w r v f =
 keeps-at Else l all t i w r v f = else-keeps l i w (w .path) r f
 keeps-at Endif l all t i w r v f = endif-keeps l i w (w .path) r f
 keeps-at Loop l all t i w r v f =
-    rw (lt-ltb (length (w .path)) depthLimit r) (
+    rw (lt-ltb (length (w .path)) nesting r) (
       simp bit-zero (omega arith),
       (λ x. bit-zero i),
       omega (arith, launched l (w .halted) i _ (w .path) f),

@@ -8,7 +8,8 @@ use native.Mathlib.Omega.{arith}
 use lib.ListN.{length, getD, set, drop, length-drop}
 use lib.Seq.{drop-cons}
 use Rattle.wave.specs.declared.state.Block.{Block}
-use Rattle.wave.specs.Layout.{depthLimit, pathNumbers, six, laid, blockAt, opened, over}
+use Rattle.blocks.specs.Scan.{nesting}
+use Rattle.wave.specs.Layout.{pathNumbers, six, laid, blockAt, opened, over}
 
 -- ---- a path that is laid out
 pub length-laid : (p : List Block) (rest : List ℕ) → length (laid p rest) ≡ 6 * length p + length rest
@@ -85,5 +86,5 @@ opened-laid (b ∷ p) rest =
     )
 
 -- the array is as long as before
-pub long-over : (p : List Block) (xs : List ℕ) → length xs ≡ pathNumbers → length p ≤ depthLimit → length (over p xs) ≡ pathNumbers
+pub long-over : (p : List Block) (xs : List ℕ) → length xs ≡ pathNumbers → length p ≤ nesting → length (over p xs) ≡ pathNumbers
 long-over p xs l h = omega (arith, length-laid p (drop (6 * length p) xs), length-drop (6 * length p) xs)

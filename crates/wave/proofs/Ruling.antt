@@ -14,7 +14,8 @@ use Rattle.lanes.specs.Sets.{without}
 use Rattle.wave.specs.declared.state.Block.{Block}
 use Rattle.wave.specs.declared.state.Hot.{Hot}
 use Rattle.wave.specs.declared.rules.Stepped.{Stepped}
-use Rattle.wave.specs.Layout.{depthLimit, pathNumbers, blockNumbers, afterElse, six, laid, blockAt, opened, put, over}
+use Rattle.blocks.specs.Scan.{nesting}
+use Rattle.wave.specs.Layout.{pathNumbers, blockNumbers, afterElse, six, laid, blockAt, opened, put, over}
 use Rattle.wave.specs.Wave.{Wave, waveOf, predsOf, hotOf, Held, held, after, Does}
 use Rattle.wave.specs.Rules.{
   onBy,
@@ -50,25 +51,25 @@ abbrev pub waveAt : Hot → ℕ → List ℕ → Wave
 waveAt h d xs = record { place = h .place; active = h .active; halted = h .halted; path = opened xs d }
 
 -- ---- going on
-pub onward-hot : (h : Hot) (size p d : ℕ) (xs : List ℕ) → p ≡ onBy size (h .place) → d ≡ min (h .depth) depthLimit
+pub onward-hot : (h : Hot) (size p d : ℕ) (xs : List ℕ) → p ≡ onBy size (h .place) → d ≡ min (h .depth) nesting
     → hotAt h p (h .active) d ≡ hotOf (onwardBy size (waveOf h xs)) (predsOf h)
-onward-hot h size p d xs e f = rw (e, f, length-opened xs (min (h .depth) depthLimit))
+onward-hot h size p d xs e f = rw (e, f, length-opened xs (min (h .depth) nesting))
 
 -- the array stays as it is
 pub onward-does : (h : Hot) (size : ℕ) (xs : List ℕ) (r : Hot) → length xs ≡ pathNumbers
     → ((ys : List ℕ) → r ≡ hotOf (onwardBy size (waveOf h ys)) (predsOf h)) → Does (onwardBy size) h xs r xs
 onward-does h size xs r l e =
-    ap₂ held (e xs) (sym (over-same xs (min (h .depth) depthLimit) (omega (arith, min-le-right (h .depth) depthLimit))))
+    ap₂ held (e xs) (sym (over-same xs (min (h .depth) nesting) (omega (arith, min-le-right (h .depth) nesting))))
 
 -- ---- what a rule has read: d is the depth, p the next place
 pub record Begun (h : Hot) (xs : List ℕ) (d p : ℕ) : Type 0 where
   pub long : length xs ≡ pathNumbers
-  pub depth : d ≡ min (h .depth) depthLimit
+  pub depth : d ≡ min (h .depth) nesting
   pub place : p ≡ next (h .place)
 
 module _ {h : Hot} {xs : List ℕ} {d p : ℕ} (g : Begun h xs d p) where
   room : blockNumbers * d ≤ length xs
-  room = omega (arith, g .long, g .depth, min-le-right (h .depth) depthLimit)
+  room = omega (arith, g .long, g .depth, min-le-right (h .depth) nesting)
 
   -- the wave after the rule has the path r, which stands in ys
   pub becomes : (f : Wave → Wave) (at a n : ℕ) (r : List Block) (ys : List ℕ) → f (waveAt h d xs) ≡ goes at a r (waveAt h d xs) → n ≡ length r
@@ -89,20 +90,20 @@ module _ {h : Hot} {xs : List ℕ} {d p : ℕ} (g : Begun h xs d p) where
   none-open f z s = keeps f (h .active) (rw z s)
 
   -- where there is no room for one more
-  pub full : (f : Wave → Wave) (a : ℕ) (b : Block) → d ≡ depthLimit
+  pub full : (f : Wave → Wave) (a : ℕ) (b : Block) → d ≡ nesting
       → f (waveAt h d xs) ≡ goes (next (h .place)) a (opens b (opened xs d)) (waveAt h d xs) → Does f h xs (hotAt h p a d) xs
   full f a b z s =
       let o : opens b (opened xs d) ≡ opened xs d = rw (length-opened xs d, z) in
       keeps f a (s ∙ rw o)
 
   -- where the block b is opened
-  pub opened-one : (f : Wave → Wave) (a : ℕ) (b : Block) → (d ≡ depthLimit → ⊥)
+  pub opened-one : (f : Wave → Wave) (a : ℕ) (b : Block) → (d ≡ nesting → ⊥)
       → f (waveAt h d xs) ≡ goes (next (h .place)) a (opens b (opened xs d)) (waveAt h d xs) → (ys : List ℕ) → ys ≡ put d b xs
       → Does f h xs (hotAt h p a (d + 1)) ys
   opened-one f a b z s ys y =
-      let l : blockNumbers * suc d ≤ length xs = omega (arith, z, g .long, g .depth, min-le-right (h .depth) depthLimit) in
-      let k : d < depthLimit = omega (arith, z, g .depth, min-le-right (h .depth) depthLimit) in
-      let o : opens b (opened xs d) ≡ b ∷ opened xs d = rw (length-opened xs d, lt-ltb d depthLimit k) in
+      let l : blockNumbers * suc d ≤ length xs = omega (arith, z, g .long, g .depth, min-le-right (h .depth) nesting) in
+      let k : d < nesting = omega (arith, z, g .depth, min-le-right (h .depth) nesting) in
+      let o : opens b (opened xs d) ≡ b ∷ opened xs d = rw (length-opened xs d, lt-ltb d nesting k) in
       becomes f p a (d + 1) (b ∷ opened xs d) ys (rw (g .place, ← o) s) (omega (arith, length-opened xs d))
       (rw (
         y,
@@ -180,8 +181,8 @@ module _ (f : Block → Block) (t j : ℕ) (makes : (b : Block) (rest : List ℕ
   over-loop k xs d = rw (length-toLoop k t (opened xs d), length-opened xs d)
 
   pub set-aside : {h : Hot} {xs : List ℕ} {d p : ℕ} → Begun h xs d p → (a l : ℕ) (ys zs : List ℕ) → a ≡ without (h .active) t
-      → l ≡ loopAt (opened xs (min (h .depth) depthLimit))
-      → ys ≡ over (toLoop same t (opened xs (min (h .depth) depthLimit))) xs
+      → l ≡ loopAt (opened xs (min (h .depth) nesting))
+      → ys ≡ over (toLoop same t (opened xs (min (h .depth) nesting))) xs
       → zs ≡ set ys (6 * l + j) (bitOr (getD ys (6 * l + j) 0) t)
       → Does asideRule h xs (hotAt h p a d) zs
   set-aside {h} {xs} {d} {p} g a l ys zs e n y z =
@@ -190,7 +191,7 @@ module _ (f : Block → Block) (t j : ℕ) (makes : (b : Block) (rest : List ℕ
       let joined : zs ≡ laid (toLoop f t (opened xs d)) (drop (6 * d) xs) =
       z ∙ rw (left, at)
       (aside-at f t j makes (opened xs d) (drop (6 * d) xs)
-      (omega (arith, length-opened xs d, length-drop (6 * d) xs, g .long, g .depth, min-le-right (h .depth) depthLimit))) in
+      (omega (arith, length-opened xs d, length-drop (6 * d) xs, g .long, g .depth, min-le-right (h .depth) nesting))) in
       becomes g asideRule p _ d (toLoop f t (opened xs d)) zs (rw (g .place, e)) (sym (length-toLoop f t (opened xs d) ∙ length-opened xs d))
       (joined ∙ sym (over-loop f xs d))
 

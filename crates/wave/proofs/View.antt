@@ -17,48 +17,49 @@ use Rattle.wave.specs.declared.state.Block.{Block}
 use Rattle.wave.specs.declared.state.Hot.{Hot}
 use Rattle.wave.specs.declared.state.State.{State}
 use Rattle.wave.specs.declared.rules.Stepped.{Stepped}
-use Rattle.wave.specs.Layout.{depthLimit, pathNumbers, opened, over}
+use Rattle.blocks.specs.Scan.{nesting}
+use Rattle.wave.specs.Layout.{pathNumbers, opened, over}
 use Rattle.wave.specs.Wave.{Wave, Preds, hotOf, waveOf, predsOf, stateOf, waveIn}
 use Rattle.wave.specs.Rules.{onward, opens, elseOn, endifOn, endloopOn, barred, broken, continued}
 use Rattle.wave.specs.Control.{controlRule, faultLanes, controlOf, Given, given}
 use Rattle.wave.proofs.Laying.{length-opened, opened-laid, long-over}
 use Rattle.wave.proofs.Walks.{length-toLoop}
 
-pub view : (w : Wave) (ps : Preds) (xs : List ℕ) → length (w .path) ≤ depthLimit → waveOf (hotOf w ps) (over (w .path) xs) ≡ w
-view w ps xs h = let e : min (length (w .path)) depthLimit ≡ length (w .path) = min-eq-left h in rw (e, opened-laid (w .path))
+pub view : (w : Wave) (ps : Preds) (xs : List ℕ) → length (w .path) ≤ nesting → waveOf (hotOf w ps) (over (w .path) xs) ≡ w
+view w ps xs h = let e : min (length (w .path)) nesting ≡ length (w .path) = min-eq-left h in rw (e, opened-laid (w .path))
 
 -- the wave of the state that holds it
-pub wave-in : (w : Wave) (ps : Preds) → length (w .path) ≤ depthLimit → waveIn (stateOf w ps) ≡ w
-wave-in w ps h = let e : min (length (w .path)) depthLimit ≡ length (w .path) = min-eq-left h in rw (e, opened-laid (w .path))
+pub wave-in : (w : Wave) (ps : Preds) → length (w .path) ≤ nesting → waveIn (stateOf w ps) ≡ w
+wave-in w ps h = let e : min (length (w .path)) nesting ≡ length (w .path) = min-eq-left h in rw (e, opened-laid (w .path))
 
 -- ---- a rule keeps within 32 open blocks
-pub roomy : (h : Hot) (xs : List ℕ) → length (waveOf h xs .path) ≤ depthLimit
-roomy h xs = omega (arith, length-opened xs (min (h .depth) depthLimit), min-le-right (h .depth) depthLimit)
+pub roomy : (h : Hot) (xs : List ℕ) → length (waveOf h xs .path) ≤ nesting
+roomy h xs = omega (arith, length-opened xs (min (h .depth) nesting), min-le-right (h .depth) nesting)
 
-opens-room : (b : Block) (p : List Block) → length p ≤ depthLimit → length (opens b p) ≤ depthLimit
-opens-room b p h = go (decLt (length p) depthLimit)
+opens-room : (b : Block) (p : List Block) → length p ≤ nesting → length (opens b p) ≤ nesting
+opens-room b p h = go (decLt (length p) nesting)
   where
-    go : Dec (length p < depthLimit) → length (opens b p) ≤ depthLimit
-    go (yes k) = rw (lt-ltb (length p) depthLimit k) (omega arith)
-    go (no k) = let m : depthLimit ≤ length p = omega (arith, k) in rw (le-ltb (length p) depthLimit m) h
+    go : Dec (length p < nesting) → length (opens b p) ≤ nesting
+    go (yes k) = rw (lt-ltb (length p) nesting k) (omega arith)
+    go (no k) = let m : nesting ≤ length p = omega (arith, k) in rw (le-ltb (length p) nesting m) h
 
-either-room : (c : Bool) (v w : Wave) → length (v .path) ≤ depthLimit → length (w .path) ≤ depthLimit → length (cond c v w .path) ≤ depthLimit
+either-room : (c : Bool) (v w : Wave) → length (v .path) ≤ nesting → length (w .path) ≤ nesting → length (cond c v w .path) ≤ nesting
 either-room true v w a b = a
 either-room false v w a b = b
 
-else-room : (p : List Block) (w : Wave) → length p ≤ depthLimit → length (w .path) ≤ depthLimit → length (elseOn p w .path) ≤ depthLimit
+else-room : (p : List Block) (w : Wave) → length p ≤ nesting → length (w .path) ≤ nesting → length (elseOn p w .path) ≤ nesting
 else-room [] w h k = k
 else-room (b ∷ p) w h k = h
 
-endif-room : (p : List Block) (w : Wave) → length p ≤ depthLimit → length (w .path) ≤ depthLimit → length (endifOn p w .path) ≤ depthLimit
+endif-room : (p : List Block) (w : Wave) → length p ≤ nesting → length (w .path) ≤ nesting → length (endifOn p w .path) ≤ nesting
 endif-room [] w h k = k
 endif-room (b ∷ p) w h k = omega arith
 
-endloop-room : (p : List Block) (w : Wave) → length p ≤ depthLimit → length (w .path) ≤ depthLimit → length (endloopOn p w .path) ≤ depthLimit
+endloop-room : (p : List Block) (w : Wave) → length p ≤ nesting → length (w .path) ≤ nesting → length (endloopOn p w .path) ≤ nesting
 endloop-room [] w h k = k
 endloop-room (b ∷ p) w h k = either-room (eqb (bitOr (w .active) (b .again)) 0) _ _ (omega arith) h
 
-pub control-room : (op : ControlOp) (all t : ℕ) (w : Wave) → length (w .path) ≤ depthLimit → length (controlRule op all t w .path) ≤ depthLimit
+pub control-room : (op : ControlOp) (all t : ℕ) (w : Wave) → length (w .path) ≤ nesting → length (controlRule op all t w .path) ≤ nesting
 unfolding controlRule
 control-room If all t w h = opens-room _ (w .path) h
 control-room Else all t w h = else-room (w .path) w h h
@@ -82,7 +83,7 @@ pub seen : (op : ControlOp) (all t : ℕ) (h : Hot) (xs : List ℕ) (r : Stepped
     → given r ys ≡ controlOf op all t h xs → Seen op all t h xs r ys
 seen op all t h xs r ys l e =
     let w : Wave = controlRule op all t (waveOf h xs) in
-    let k : length (w .path) ≤ depthLimit = control-room op all t (waveOf h xs) (roomy h xs) in
+    let k : length (w .path) ≤ nesting = control-room op all t (waveOf h xs) (roomy h xs) in
     record {
       long = ap (λ (g : Given). length (g .end .numbers)) e ∙ long-over (w .path) xs l k;
       wave = ap (λ (g : Given). waveOf (g .end .hot) (g .end .numbers)) e ∙ view w (predsOf h) xs k;

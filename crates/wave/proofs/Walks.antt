@@ -11,7 +11,8 @@ use lib.Seq.{getD-set-other, drop-set-add, set-out}
 use lib.Bits.{bitOr}
 use lib.Dec.{eqb}
 use Rattle.wave.specs.declared.state.Block.{Block}
-use Rattle.wave.specs.Layout.{depthLimit, pathNumbers, six, laid, blockAt, opened, over}
+use Rattle.blocks.specs.Scan.{nesting}
+use Rattle.wave.specs.Layout.{pathNumbers, six, laid, blockAt, opened, over}
 use Rattle.wave.specs.Rules.{leave, toLoop, isLoop}
 use Rattle.wave.specs.Search.{loopAt, same}
 use Rattle.wave.proofs.Laying.{length-opened, laid-opened, drop-six, set-laid, getD-laid}
@@ -95,7 +96,7 @@ module _ (f : Block → Block) (t j : ℕ) (makes : (b : Block) (rest : List ℕ
   pub aside-at : (p : List Block) (rest : List ℕ) → 6 * length p + length rest ≤ pathNumbers
       → set (laid (toLoop same t p) rest) (6 * loopAt p + j) (bitOr (getD (laid (toLoop same t p) rest) (6 * loopAt p + j) 0) t)
       ≡ laid (toLoop f t p) rest
-  aside-at [] rest l = set-out rest (6 * depthLimit + j) _ (omega arith)
+  aside-at [] rest l = set-out rest (6 * nesting + j) _ (omega arith)
   aside-at (b ∷ p) rest l = at-block b p rest (isLoop b) (aside-at p (six (leave t b) rest) (omega arith))
 
 pub length-toLoop : (f : Block → Block) (t : ℕ) (p : List Block) → length (toLoop f t p) ≡ length p

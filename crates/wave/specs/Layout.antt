@@ -2,13 +2,11 @@
 use mathlib.Core.List.{List, [], _∷_}
 use Prim.Native.Nat.{ℕ, zero, suc, _+_, _-_, _*_}
 use lib.ListN.{length, replicate, getD, set, drop}
+use Rattle.blocks.specs.Scan.{before, after, looping}
+use Rattle.blocks.specs.OpenAt.{part-number}
 use Rattle.wave.specs.declared.state.Block.{Block}
 
--- at most so many blocks are open
-abbrev pub depthLimit : ℕ
-depthLimit = 32
-
--- the numbers of a block, and of as many blocks as can be open
+-- the numbers of a block, and of as many blocks as there is room for
 abbrev pub blockNumbers : ℕ
 blockNumbers = 6
 
@@ -17,13 +15,13 @@ pathNumbers = 192
 
 -- a block's part: 1 before ELSE, 2 after, 3 loop
 abbrev pub beforeElse : ℕ
-beforeElse = 1
+beforeElse = part-number before
 
 abbrev pub afterElse : ℕ
-afterElse = 2
+afterElse = part-number after
 
 abbrev pub loopPart : ℕ
-loopPart = 3
+loopPart = part-number looping
 
 -- the six numbers of a block, and then the rest
 abbrev pub six : Block → List ℕ → List ℕ

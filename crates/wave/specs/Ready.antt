@@ -8,7 +8,8 @@ use Rattle.words.specs.declared.instr.ControlOp.{ControlOp}
 use Rattle.words.specs.declared.instr.ControlOp.the-variants.{If, Else, Endif, Loop, Break, Continue, Endloop, Halt, Barrier, Nop}
 use Rattle.lanes.specs.Sets.{without}
 use Rattle.wave.specs.declared.state.Block.{Block}
-use Rattle.wave.specs.Layout.{depthLimit, beforeElse}
+use Rattle.blocks.specs.Scan.{nesting}
+use Rattle.wave.specs.Layout.{beforeElse}
 use Rattle.wave.specs.Rules.{isLoop}
 
 -- the innermost block is an IF before its ELSE
@@ -28,10 +29,10 @@ SomeLoop (b ∷ bs) = cond (isLoop b) Unit (SomeLoop bs)
 
 -- there is room for IF and LOOP; ELSE, ENDIF, ENDLOOP stand directly in their block; BREAK, CONTINUE inside some loop
 unfoldable pub Ready : ControlOp → List Block → Type 0
-Ready If p = length p < depthLimit
+Ready If p = length p < nesting
 Ready Else p = TopHalf p
 Ready Endif p = TopLoop false p
-Ready Loop p = length p < depthLimit
+Ready Loop p = length p < nesting
 Ready Break p = SomeLoop p
 Ready Continue p = SomeLoop p
 Ready Endloop p = TopLoop true p

@@ -8,7 +8,8 @@ use lib.Dec.{eqb, ltb}
 use Rattle.words.specs.declared.instr.Guard.{Guard}
 use Rattle.lanes.specs.Sets.{without}
 use Rattle.wave.specs.declared.state.Block.{Block}
-use Rattle.wave.specs.Layout.{depthLimit, beforeElse, afterElse, loopPart}
+use Rattle.blocks.specs.Scan.{nesting}
+use Rattle.wave.specs.Layout.{beforeElse, afterElse, loopPart}
 use Rattle.wave.specs.Wave.{Wave, Preds}
 
 -- ---- the executing lanes
@@ -77,7 +78,7 @@ isLoop b = eqb (b .part) loopPart
 -- ---- the path
 -- one block more, where there is room
 abbrev pub opens : Block → List Block → List Block
-opens b p = cond (ltb (length p) depthLimit) (b ∷ p) p
+opens b p = cond (ltb (length p) nesting) (b ∷ p) p
 
 -- the innermost open loop is changed by f, and the lanes t leave every block inside it
 abbrev pub toLoop : (Block → Block) → ℕ → List Block → List Block

@@ -4,12 +4,12 @@ use mathlib.Core.List.{List, [], _∷_}
 use Prim.Native.Nat.{ℕ}
 use lib.ListN.{length}
 use Rattle.wave.specs.declared.state.Block.{Block}
-use Rattle.wave.specs.Layout.{depthLimit}
+use Rattle.blocks.specs.Scan.{nesting}
 use Rattle.wave.specs.Rules.{isLoop}
 
 -- 32 where no loop is open: no block has that number
 abbrev pub loopAt : List Block → ℕ
-loopAt [] = depthLimit
+loopAt [] = nesting
 loopAt (b ∷ bs) = cond (isLoop b) (length bs) (loopAt bs)
 
 -- the search itself does not change the loop

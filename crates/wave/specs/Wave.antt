@@ -7,7 +7,8 @@ use Rattle.lanes.specs.Sets.{first}
 use Rattle.wave.specs.declared.state.Block.{Block}
 use Rattle.wave.specs.declared.state.Hot.{Hot}
 use Rattle.wave.specs.declared.state.State.{State}
-use Rattle.wave.specs.Layout.{depthLimit, opened, over, arrayOf}
+use Rattle.blocks.specs.Scan.{nesting}
+use Rattle.wave.specs.Layout.{opened, over, arrayOf}
 
 -- what the control instructions read and change; path: the open blocks, innermost first
 pub record Wave : Type 0 where
@@ -25,7 +26,7 @@ pub record Preds : Type 0 where
 -- the wave of the numbers: a depth over 32 is read as 32, and what stands past the open blocks is not read
 abbrev pub waveOf : Hot → List ℕ → Wave
 waveOf h xs =
-    record { place = h .place; active = h .active; halted = h .halted; path = opened xs (min (h .depth) depthLimit) }
+    record { place = h .place; active = h .active; halted = h .halted; path = opened xs (min (h .depth) nesting) }
 
 abbrev pub predsOf : Hot → Preds
 predsOf h = record { p1 = h .p1; p2 = h .p2; p3 = h .p3 }

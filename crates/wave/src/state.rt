@@ -3,11 +3,12 @@ use lanes::Lanes;
 ghost use mathlib.Core.Path.{_≡_};
 ghost use Prim.Native.Nat.{min};
 ghost use lib.ListN.{length};
-ghost use Rattle.wave.specs.Layout.{depthLimit, pathNumbers, arrayOf};
+ghost use Rattle.blocks.specs.Scan.{nesting};
+ghost use Rattle.wave.specs.Layout.{pathNumbers, arrayOf};
 ghost use Rattle.wave.specs.Wave.{waveOf, predsOf, hotOf, held};
 
-// At most so many blocks are open.
-pub const DEPTH_LIMIT: u32 = 32;
+// The room for nesting: no more blocks are open.
+pub const NESTING: u32 = 32;
 
 // An open block is six numbers: its part, and then these.
 pub const BLOCK_NUMBERS: usize = 6;
@@ -22,7 +23,7 @@ pub const AGAIN: usize = 4;
 
 pub const LEFT: usize = 5;
 
-// The numbers of as many blocks as can be open.
+// The numbers of as many blocks as there is room for.
 pub const PATH_NUMBERS: usize = 192;
 
 // A block's part.
@@ -61,12 +62,12 @@ pub struct State {
 
 // A depth over 32 is read as 32.
 pub fn depth_of(depth: u32) -> u32
-    ensures { λ r. ⌜ r ≡ min depth depthLimit ⌝ }
+    ensures { λ r. ⌜ r ≡ min depth nesting ⌝ }
 {
-    if depth < DEPTH_LIMIT {
+    if depth < NESTING {
         depth
     } else {
-        DEPTH_LIMIT
+        NESTING
     }
 }
 

@@ -13,7 +13,8 @@ use crate::state::depth_of;
 use lanes::Lanes;
 ghost use mathlib.Core.Path.{_≡_};
 ghost use Prim.Native.Nat.{_<_};
-ghost use Rattle.wave.specs.Layout.{depthLimit, blockAt};
+ghost use Rattle.blocks.specs.Scan.{nesting};
+ghost use Rattle.wave.specs.Layout.{blockAt};
 ghost use Rattle.wave.specs.Wave.{waveOf, predsOf};
 ghost use Rattle.wave.specs.FitsTest as test;
 
@@ -64,7 +65,7 @@ fn block_fits(all: Lanes, inner: Lanes, b: Block) -> bool
 
 // Block d of the array.
 fn block_at(d: u32, bl: &[u32; PATH_NUMBERS]) -> Block
-    requires { ⌜ d < depthLimit ⌝ }
+    requires { ⌜ d < nesting ⌝ }
     ensures { λ r. ⌜ r ≡ blockAt (now (bl .entry)) d ⌝ }
 {
     let k = BLOCK_NUMBERS * (d as usize);

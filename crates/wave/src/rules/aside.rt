@@ -3,7 +3,7 @@ use crate::rules::going::after_place;
 use crate::state::AGAIN;
 use crate::state::ASIDE;
 use crate::state::BLOCK_NUMBERS;
-use crate::state::DEPTH_LIMIT;
+use crate::state::NESTING;
 use crate::state::Hot;
 use crate::state::LEFT;
 use crate::state::LOOP;
@@ -16,7 +16,8 @@ ghost use mathlib.Core.Path.{_≡_};
 ghost use Prim.Native.Nat.{min};
 ghost use lib.ListN.{set, getD};
 ghost use lib.Bits.{bitOr};
-ghost use Rattle.wave.specs.Layout.{depthLimit, opened, over};
+ghost use Rattle.blocks.specs.Scan.{nesting};
+ghost use Rattle.wave.specs.Layout.{opened, over};
 ghost use Rattle.wave.specs.Wave.{Does};
 ghost use Rattle.wave.specs.Rules.{breakRule, continueRule, toLoop};
 ghost use Rattle.wave.specs.Search.{loopAt, same};
@@ -24,14 +25,14 @@ ghost use Rattle.wave.specs.Search.{loopAt, same};
 // The outward search through open blocks: the lanes t leave each block inside the innermost loop, whose number is the answer; 32 where no
 // loop is open.
 fn leave_inner(depth: u32, t: Lanes, bl: &mut [u32; PATH_NUMBERS]) -> u32
-    ensures { λ r. ⌜ (r ≡ loopAt (opened (now (bl .entry)) (min depth depthLimit)))
-        × (now (bl .exit) ≡ over (toLoop same t (opened (now (bl .entry)) (min depth depthLimit))) (now (bl .entry))) ⌝ }
+    ensures { λ r. ⌜ (r ≡ loopAt (opened (now (bl .entry)) (min depth nesting)))
+        × (now (bl .exit) ≡ over (toLoop same t (opened (now (bl .entry)) (min depth nesting))) (now (bl .entry))) ⌝ }
 {
     whole(bl);
     let mut i = depth_of(depth);
     let n = loop {
         if i == 0 {
-            break DEPTH_LIMIT;
+            break NESTING;
         }
         i -= 1;
         let k = BLOCK_NUMBERS * (i as usize);

@@ -5,7 +5,7 @@ use crate::state::ASIDE;
 use crate::state::BEFORE_ELSE;
 use crate::state::BLOCK_NUMBERS;
 use crate::state::Block;
-use crate::state::DEPTH_LIMIT;
+use crate::state::NESTING;
 use crate::state::ENTERED;
 use crate::state::Hot;
 use crate::state::LEFT;
@@ -18,13 +18,14 @@ use lanes::Lanes;
 use lanes::without;
 ghost use mathlib.Core.Path.{_≡_};
 ghost use Prim.Native.Nat.{_<_};
-ghost use Rattle.wave.specs.Layout.{depthLimit, put};
+ghost use Rattle.blocks.specs.Scan.{nesting};
+ghost use Rattle.wave.specs.Layout.{put};
 ghost use Rattle.wave.specs.Wave.{Does};
 ghost use Rattle.wave.specs.Rules.{ifRule, loopRule};
 
 // Block d becomes b.
 fn put_block(d: u32, b: Block, bl: &mut [u32; PATH_NUMBERS])
-    requires { ⌜ d < depthLimit ⌝ }
+    requires { ⌜ d < nesting ⌝ }
     ensures { λ r. ⌜ now (bl .exit) ≡ put d b (now (bl .entry)) ⌝ }
 {
     let k = BLOCK_NUMBERS * (d as usize);
@@ -47,7 +48,7 @@ pub(crate) fn open_if(h: Hot, t: Lanes, bl: &mut [u32; PATH_NUMBERS]) -> Hot
     n.place = after_place(h.place);
     n.active = h.active & t;
     n.depth = d;
-    if d == DEPTH_LIMIT {
+    if d == NESTING {
         return n;
     }
     let b = Block {
@@ -72,7 +73,7 @@ pub(crate) fn open_loop(h: Hot, bl: &mut [u32; PATH_NUMBERS]) -> Hot
     let mut n = h;
     n.place = after_place(h.place);
     n.depth = d;
-    if d == DEPTH_LIMIT {
+    if d == NESTING {
         return n;
     }
     let b = Block {

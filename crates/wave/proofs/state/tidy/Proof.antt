@@ -4,7 +4,8 @@ use Prim.Native.Nat.{_≤_, _-_}
 use native.Mathlib.Nat.{min-le-right}
 use native.Mathlib.Omega.{arith}
 use lib.ListN.{length, length-set}
-use Rattle.wave.specs.Layout.{depthLimit, pathNumbers}
+use Rattle.blocks.specs.Scan.{nesting}
+use Rattle.wave.specs.Layout.{pathNumbers}
 use Rattle.wave.proofs.Tidying.{wiped, wipe-more, wipe-end, tidied}
 use Rattle.wave.proofs.state.tidy.Statement.{statement}
 use Rattle.wave.proofs.state.tidy.Tie as tie
@@ -28,7 +29,7 @@ mul-k : tie.Need-mul-k Inv-loop μ-loop
 mul-k c = omega arith
 
 loop-holds : tie.Need-loop-holds Inv-loop μ-loop
-loop-holds c = (omega (arith, min-le-right (c .before .before .before .args .h .depth) depthLimit), c .before .whole .ensures, refl)
+loop-holds c = (omega (arith, min-le-right (c .before .before .before .args .h .depth) nesting), c .before .whole .ensures, refl)
 
 mul-bl : tie.Need-mul-bl Inv-loop μ-loop
 mul-bl c = omega arith

@@ -4,14 +4,15 @@ use mathlib.Core.Bool.{_&&_}
 use Prim.Native.Nat.{_≤_}
 use native.Mathlib.Nat.{min-le-right}
 use native.Mathlib.Omega.{arith}
-use Rattle.wave.specs.Layout.{depthLimit, opened}
+use Rattle.blocks.specs.Scan.{nesting}
+use Rattle.wave.specs.Layout.{opened}
 use Rattle.wave.specs.FitsTest.{pathTest}
 use Rattle.wave.proofs.Testing.{test-next, test-end}
 use Rattle.wave.proofs.fits.sets.sets_fit.Statement.{statement}
 use Rattle.wave.proofs.fits.sets.sets_fit.Tie as tie
 
 abbrev Inv-loop : tie.InvT-loop
-Inv-loop h all bl ok₀ inner₀ i₀ ok inner i = (i ≤ depthLimit) × ((ok && pathTest all (h .halted) inner (opened bl i)) ≡ pathTest all (h .halted) inner₀ (opened bl i₀))
+Inv-loop h all bl ok₀ inner₀ i₀ ok inner i = (i ≤ nesting) × ((ok && pathTest all (h .halted) inner (opened bl i)) ≡ pathTest all (h .halted) inner₀ (opened bl i₀))
 
 abbrev μ-loop : tie.MeasureT-loop
 μ-loop h all bl ok₀ inner₀ i₀ ok inner i = i
@@ -20,7 +21,7 @@ depth-of-requires : tie.Need-depth-of-requires Inv-loop μ-loop
 depth-of-requires c κs = tt
 
 loop-holds : tie.Need-loop-holds Inv-loop μ-loop
-loop-holds c = (omega (arith, min-le-right (c .before .args .h .depth) depthLimit), refl)
+loop-holds c = (omega (arith, min-le-right (c .before .args .h .depth) nesting), refl)
 
 sub-i : tie.Need-sub-i Inv-loop μ-loop
 sub-i c = omega arith

@@ -4,7 +4,8 @@ use Prim.Native.Nat.{ℕ, _<_, _≤_}
 use native.Mathlib.Nat.{min-le-right}
 use native.Mathlib.Omega.{arith}
 use lib.ListN.{length, length-set}
-use Rattle.wave.specs.Layout.{depthLimit, pathNumbers, opened}
+use Rattle.blocks.specs.Scan.{nesting}
+use Rattle.wave.specs.Layout.{pathNumbers, opened}
 use Rattle.wave.specs.Rules.{toLoop}
 use Rattle.wave.specs.Search.{loopAt, same}
 use Rattle.wave.proofs.Walks.{walked, walk-past, walk-at, walked-none, number-past, number-at, number-none, walked-over}
@@ -12,7 +13,7 @@ use Rattle.wave.proofs.rules.aside.leave_inner.Statement.{statement}
 use Rattle.wave.proofs.rules.aside.leave_inner.Tie as tie
 
 abbrev Inv-loop : tie.InvT-loop
-Inv-loop depth t bl₀ i₀ bl i = (i ≤ depthLimit) × (length bl ≡ pathNumbers) × (loopAt (opened bl i) ≡ loopAt (opened bl₀ i₀))
+Inv-loop depth t bl₀ i₀ bl i = (i ≤ nesting) × (length bl ≡ pathNumbers) × (loopAt (opened bl i) ≡ loopAt (opened bl₀ i₀))
     × (walked (toLoop same t) i bl ≡ walked (toLoop same t) i₀ bl₀)
 
 abbrev μ-loop : tie.MeasureT-loop
@@ -25,7 +26,7 @@ depth-of-requires : tie.Need-depth-of-requires Inv-loop μ-loop
 depth-of-requires c κs = tt
 
 loop-holds : tie.Need-loop-holds Inv-loop μ-loop
-loop-holds c = (omega (arith, min-le-right (c .before .before .before .args .depth) depthLimit), c .before .whole .ensures, refl, refl)
+loop-holds c = (omega (arith, min-le-right (c .before .before .before .args .depth) nesting), c .before .whole .ensures, refl, refl)
 
 sub-i : tie.Need-sub-i Inv-loop μ-loop
 sub-i c = omega arith

@@ -5,7 +5,8 @@ use Prim.Native.Nat.{_≤_}
 use native.Mathlib.Nat.{min-le-right}
 use native.Mathlib.Omega.{arith}
 use lib.ListN.{length, length-set}
-use Rattle.wave.specs.Layout.{depthLimit, pathNumbers}
+use Rattle.blocks.specs.Scan.{nesting}
+use Rattle.wave.specs.Layout.{pathNumbers}
 use Rattle.wave.specs.Rules.{leave}
 use Rattle.wave.proofs.Ruling.{halted-all}
 use Rattle.wave.proofs.Walks.{walked, walk-leave, walked-none}
@@ -13,7 +14,7 @@ use Rattle.wave.proofs.rules.halting.halt.Statement.{statement}
 use Rattle.wave.proofs.rules.halting.halt.Tie as tie
 
 abbrev Inv-loop : tie.InvT-loop
-Inv-loop h t bl₀ d i₀ bl i = (i ≤ depthLimit) × (length bl ≡ pathNumbers) × (walked (map (leave t)) i bl ≡ walked (map (leave t)) i₀ bl₀)
+Inv-loop h t bl₀ d i₀ bl i = (i ≤ nesting) × (length bl ≡ pathNumbers) × (walked (map (leave t)) i bl ≡ walked (map (leave t)) i₀ bl₀)
 
 abbrev μ-loop : tie.MeasureT-loop
 μ-loop h t bl₀ d i₀ bl i = i
@@ -25,7 +26,7 @@ depth-of-requires : tie.Need-depth-of-requires Inv-loop μ-loop
 depth-of-requires c κs = tt
 
 loop-holds : tie.Need-loop-holds Inv-loop μ-loop
-loop-holds c = (omega (arith, min-le-right (c .before .before .before .args .h .depth) depthLimit), c .before .whole .ensures, refl)
+loop-holds c = (omega (arith, min-le-right (c .before .before .before .args .h .depth) nesting), c .before .whole .ensures, refl)
 
 sub-i : tie.Need-sub-i Inv-loop μ-loop
 sub-i c = omega arith
