@@ -115,13 +115,18 @@ module _ (code : Code) (fits : Fits code) where
       → (b : Bool) → ltb (length o) nesting ≡ b → step code at o ≡ cond b (go (at + 1) (open-at part at ∷ o)) (over (Refused 9 at))
       → NextOpened code (cond b (go (at + 1) (open-at part at ∷ o)) (over (Refused 9 at)))
   unfolding EachOpened
-  opens-opened part at o first h i k true b e =
-      ((record {
+  opens-opened part at o first h i k true b e = (
+    (
+      record {
         in-code = h;
         opener = i;
         here = k .found;
         next = going-on code fits at o (at + 1) (open-at part at ∷ o) (k .found) e ∙ ap (λ (x : Part). there (open-at x at ∷ o)) (sym first);
-      }, k .opened), omega (arith, ltb-true (length o) nesting b))
+      },
+      k .opened,
+    ),
+    omega (arith, ltb-true (length o) nesting b),
+  )
   opens-opened part at o first h i k false b e = tt
 
   jump-opened : (at : ℕ) (o : List Open) → Nested code at o → (b : Bool) → NextOpened code (cond b (go (at + 1) o) (stray at))

@@ -25,7 +25,14 @@ pub enum Checked {
 }
 
 // One level, from a place on, where so much room is left. A block opened in it is checked by a call of this function, with one less of room.
-fn level(code: &[u32], registers: u32, from: usize, room: usize, inside: Inside, in_loop: bool) -> BlockEnd
+fn level(
+    code: &[u32],
+    registers: u32,
+    from: usize,
+    room: usize,
+    inside: Inside,
+    in_loop: bool,
+) -> BlockEnd
     requires { ⌜ from ≤ length (now code) ⌝ }
     ensures { λ r. ⌜ LevelSays (codeOf (now (code .entry)) registers) from room inside in_loop r ⌝ }
 {

@@ -7,3 +7,4 @@ pub mod Testing
 pub mod AtLane
 pub mod Fitting
 pub mod Keeps
+pub mod Comparing

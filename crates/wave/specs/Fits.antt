@@ -1,11 +1,15 @@
--- When the sets of a handed-in state fit, lane by lane, with the lanes 0 to n-1 launched.
+-- When a handed-in state fits, with the lanes 0 to n-1 launched; its sets lane by lane.
 use mathlib.Core.Path.{_≡_}
 use mathlib.Core.Bool.{false}
 use mathlib.Core.List.{List, [], _∷_, _++_}
 use Prim.Native.Nat.{ℕ, _+_, _≤_, _<_}
-use Rattle.lanes.specs.Sets.{bit}
+use Rattle.lanes.specs.Sets.{bit, widest}
+use Rattle.blocks.specs.Code.{codeOf}
+use Rattle.blocks.specs.Scan.{nesting, Open}
+use Rattle.blocks.specs.OpenAt.{Found, nowhere, there, openAt, number-of, opener-of}
 use Rattle.wave.specs.declared.state.Block.{Block}
-use Rattle.wave.specs.Wave.{Wave, Preds}
+use Rattle.wave.specs.declared.state.Hot.{Hot}
+use Rattle.wave.specs.Wave.{Wave, Preds, waveOf, predsOf}
 use Rattle.wave.specs.Rules.{isLoop}
 
 -- how many of the sets have lane i
@@ -50,3 +54,26 @@ pub record SetsFit (n : ℕ) (w : Wave) (ps : Preds) : Type 0 where
       → count i (w .active ∷ w .halted ∷ (asides (w .path) ++ (marks (w .path) ++ predicates ps))) ≡ 0
   pub unions : Unions (w .active ∷ []) (w .path)
   pub quiet : Quiet (w .path)
+
+-- the open blocks are those that the code has open, in order, with the right half of each IF
+abbrev pub Same : List Block → List Open → Type 0
+Same [] [] = Unit
+Same [] (x ∷ o) = ⊥
+Same (b ∷ bs) [] = ⊥
+Same (b ∷ bs) (x ∷ o) = (b .part ≡ number-of x) × (b .opener ≡ opener-of x) × Same bs o
+
+-- the place is an instruction's first word or the end, and these blocks are open there
+abbrev pub OpenThere : Found → List Block → Type 0
+OpenThere nowhere p = ⊥
+OpenThere (there o) p = Same p o
+
+pub record WaveFits (code : List ℕ) (registers n : ℕ) (w : Wave) (ps : Preds) : Type 0 where
+  pub blocks : OpenThere (openAt (codeOf code registers) (w .place)) (w .path)
+  pub sets : SetsFit n w ps
+
+-- a state fits: no more lanes than the widest wave has, no more open blocks than there is room for, and the wave that it holds fits. The
+-- numbers past the open blocks do not count
+pub record Fits (code : List ℕ) (registers n : ℕ) (h : Hot) (xs : List ℕ) : Type 0 where
+  pub wide : n ≤ widest
+  pub deep : h .depth ≤ nesting
+  pub wave : WaveFits code registers n (waveOf h xs) (predsOf h)

@@ -64,11 +64,7 @@ pub struct State {
 pub fn depth_of(depth: u32) -> u32
     ensures { λ r. ⌜ r ≡ min depth nesting ⌝ }
 {
-    if depth < NESTING {
-        depth
-    } else {
-        NESTING
-    }
+    if depth < NESTING { depth } else { NESTING }
 }
 
 fn len_of(words: &[u32]) -> usize

@@ -20,7 +20,6 @@ use Rattle.blocks.proofs.places.pushed.Reads as pushed-reads
 use Rattle.blocks.proofs.places.turned_to.Reads as turned-to-reads
 use Rattle.blocks.proofs.rules.judge.Reads as judge-reads
 
-
 -- where a turn has been judged
 ready : (j : tie.After-judge)
     → let a = j .before .before .before .before .before .args in
