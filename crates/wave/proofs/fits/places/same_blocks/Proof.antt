@@ -1,0 +1,43 @@
+-- The invariant: what was compared so far and the blocks further out say what all of them do.
+use mathlib.Core.Path.{_≡_, refl, _∙_}
+use mathlib.Core.Bool.{_&&_}
+use Prim.Native.Nat.{_≤_}
+use native.Mathlib.Omega.{arith}
+use Rattle.blocks.specs.Scan.{nesting}
+use Rattle.wave.specs.FitsTest.{sameBlocks}
+use Rattle.wave.proofs.Comparing.{same-next, same-end}
+use Rattle.wave.proofs.fits.places.same_blocks.Statement.{statement}
+use Rattle.wave.proofs.fits.places.same_blocks.Tie as tie
+
+abbrev Inv-loop : tie.InvT-loop
+Inv-loop d bl stack ok₀ i₀ ok i = (i ≤ nesting) × ((ok && sameBlocks bl (stack .parts) (stack .openers) i) ≡ sameBlocks bl (stack .parts) (stack .openers) i₀)
+
+abbrev μ-loop : tie.MeasureT-loop
+μ-loop d bl stack ok₀ i₀ ok i = i
+
+loop-holds : tie.Need-loop-holds Inv-loop μ-loop
+loop-holds c = (omega (arith, c .pre), refl)
+
+sub-i : tie.Need-sub-i Inv-loop μ-loop
+sub-i c = omega arith
+
+same-block-requires : tie.Need-same-block-requires Inv-loop μ-loop
+same-block-requires c κs = omega arith
+
+loop-less : tie.Need-loop-less Inv-loop μ-loop
+loop-less c = omega arith
+
+loop-again : tie.Need-loop-again Inv-loop μ-loop
+loop-again c = let l = c .before .before .loop in
+    let s = c .before .before .before .args in
+    (omega arith, same-next (s .bl .now) (s .stack .parts) (s .stack .openers) (l .ok) _ (l .i) (omega arith) (c .same-block .ensures) ∙ l .inv .1)
+
+returns : tie.Need-returns Inv-loop μ-loop
+returns c = let l = c .before .loop in
+    let s = c .before .before .args in
+    same-end (s .bl .now) (s .stack .parts) (s .stack .openers) (l .ok) (l .i) (s .d) (omega arith) (l .inv .1)
+
+pub same-blocks-spec : {M : Type 1} → statement M
+same-blocks-spec =
+    tie.close
+    (tie.spec Inv-loop μ-loop loop-holds sub-i same-block-requires loop-less loop-again returns)

@@ -1,0 +1,116 @@
+-- The outward search. The invariant: from here it finds the same loop and marks the same blocks as from the innermost block.
+use mathlib.Core.Path.{_≡_, refl, sym, ap, _∙_}
+use Prim.Native.Nat.{ℕ, _<_, _≤_}
+use native.Mathlib.Nat.{min-le-right}
+use native.Mathlib.Omega.{arith}
+use lib.ListN.{length, length-set}
+use Rattle.blocks.specs.Scan.{nesting}
+use Rattle.wave.specs.Layout.{pathNumbers, opened}
+use Rattle.wave.specs.Rules.{toLoop}
+use Rattle.wave.specs.Search.{loopAt, same}
+use Rattle.wave.proofs.Walks.{walked, walk-past, walk-at, walked-none, number-past, number-at, number-none, walked-over}
+use Rattle.wave.proofs.rules.aside.leave_inner.Statement.{statement}
+use Rattle.wave.proofs.rules.aside.leave_inner.Tie as tie
+
+abbrev Inv-loop : tie.InvT-loop
+Inv-loop depth t bl₀ i₀ bl i = (i ≤ nesting) × (length bl ≡ pathNumbers) × (loopAt (opened bl i) ≡ loopAt (opened bl₀ i₀))
+    × (walked (toLoop same t) i bl ≡ walked (toLoop same t) i₀ bl₀)
+
+abbrev μ-loop : tie.MeasureT-loop
+μ-loop depth t bl₀ i₀ bl i = i
+
+whole-requires : tie.Need-whole-requires Inv-loop μ-loop
+whole-requires c κs = tt
+
+depth-of-requires : tie.Need-depth-of-requires Inv-loop μ-loop
+depth-of-requires c κs = tt
+
+loop-holds : tie.Need-loop-holds Inv-loop μ-loop
+loop-holds c = (omega (arith, min-le-right (c .before .before .before .args .depth) nesting), c .before .whole .ensures, refl, refl)
+
+sub-i : tie.Need-sub-i Inv-loop μ-loop
+sub-i c = omega arith
+
+cast-k : tie.Need-cast-k Inv-loop μ-loop
+cast-k c = omega arith
+
+mul-k : tie.Need-mul-k Inv-loop μ-loop
+mul-k c = omega arith
+
+mul-if2 : tie.Need-mul-if2 Inv-loop μ-loop
+mul-if2 c = omega arith
+
+element-copy-out-if2 : tie.Need-element-copy-out-if2 Inv-loop μ-loop
+element-copy-out-if2 c = omega arith
+
+add-bl : tie.Need-add-bl Inv-loop μ-loop
+add-bl c = omega arith
+
+mul-bl : tie.Need-mul-bl Inv-loop μ-loop
+mul-bl c = omega arith
+
+element-copy-out-bl : tie.Need-element-copy-out-bl Inv-loop μ-loop
+element-copy-out-bl c = omega arith
+
+add-bl-2 : tie.Need-add-bl-2 Inv-loop μ-loop
+add-bl-2 c = omega arith
+
+mul-bl-2 : tie.Need-mul-bl-2 Inv-loop μ-loop
+mul-bl-2 c = omega arith
+
+element-write-bl : tie.Need-element-write-bl Inv-loop μ-loop
+element-write-bl c = omega arith
+
+loop-less : tie.Need-loop-less Inv-loop μ-loop
+loop-less c = omega arith
+
+loop-again : tie.Need-loop-again Inv-loop μ-loop
+loop-again c = let l = c .before .before .before .before .loop in
+    let p : 0 < l .i = omega (arith, c .before .before .before .if1 .left) in (
+      omega arith,
+      simp length-set (l .inv .1),
+      number-past (l .bl) _ (l .i) p (c .before .if2 .left) ∙ l .inv .2,
+      walk-past (c .before .before .before .before .before .before .before .before .args .t) (l .bl) (l .i) p (omega arith) (c .before .if2 .left) ∙ l .inv .3,
+    )
+
+returns : tie.Need-returns Inv-loop μ-loop
+returns c = let l = c .before .loop in
+    let s = c .before .before .before .before .before .args in (
+      number-none (s .bl .now) (l .bl) (l .i) _ _ (c .if1 .taken) (c .before .before .depth-of .ensures) (l .inv .2),
+      walked-over (s .t) (s .bl .now) (l .bl) _ _ (c .before .before .depth-of .ensures)
+          (sym (walked-none (toLoop same (s .t)) (l .bl) (l .i) refl (c .if1 .taken)) ∙ l .inv .3),
+    )
+
+returns-2 : tie.Need-returns-2 Inv-loop μ-loop
+returns-2 c = let l = c .before .before .before .loop in
+    let s = c .before .before .before .before .before .before .before .args in
+    let p : 0 < l .i = omega (arith, c .before .before .if1 .left) in (
+      number-at (l .bl) (l .i) p (c .if2 .taken) ∙ l .inv .2 ∙ ap (λ (d : ℕ). loopAt (opened (s .bl .now) d)) (c .before .before .before .before .depth-of .ensures),
+      walked-over (s .t) (s .bl .now) (l .bl) _ _ (c .before .before .before .before .depth-of .ensures)
+          (walk-at (s .t) (l .bl) (l .i) p (omega arith) (c .if2 .taken) ∙ l .inv .3),
+    )
+
+pub leave-inner-spec : {M : Type 1} → statement M
+leave-inner-spec =
+    tie.close
+    (tie.spec
+    Inv-loop
+    μ-loop
+    whole-requires
+    depth-of-requires
+    loop-holds
+    sub-i
+    cast-k
+    mul-k
+    mul-if2
+    element-copy-out-if2
+    add-bl
+    mul-bl
+    element-copy-out-bl
+    add-bl-2
+    mul-bl-2
+    element-write-bl
+    loop-less
+    loop-again
+    returns
+    returns-2)

@@ -1,0 +1,72 @@
+-- The invariant: the first k numbers as they are and then zeros is the same list as before the loop.
+use mathlib.Core.Path.{_≡_, refl, _∙_}
+use Prim.Native.Nat.{_≤_, _-_}
+use native.Mathlib.Nat.{min-le-right}
+use native.Mathlib.Omega.{arith}
+use lib.ListN.{length, length-set}
+use Rattle.blocks.specs.Scan.{nesting}
+use Rattle.wave.specs.Layout.{pathNumbers}
+use Rattle.wave.proofs.Tidying.{wiped, wipe-more, wipe-end, tidied}
+use Rattle.wave.proofs.state.tidy.Statement.{statement}
+use Rattle.wave.proofs.state.tidy.Tie as tie
+
+abbrev Inv-loop : tie.InvT-loop
+Inv-loop h bl₀ d k₀ bl k = (k ≤ pathNumbers) × (length bl ≡ pathNumbers) × (wiped k bl ≡ wiped k₀ bl₀)
+
+abbrev μ-loop : tie.MeasureT-loop
+μ-loop h bl₀ d k₀ bl k = pathNumbers - k
+
+whole-requires : tie.Need-whole-requires Inv-loop μ-loop
+whole-requires c κs = tt
+
+depth-of-requires : tie.Need-depth-of-requires Inv-loop μ-loop
+depth-of-requires c κs = tt
+
+cast-k : tie.Need-cast-k Inv-loop μ-loop
+cast-k c = omega arith
+
+mul-k : tie.Need-mul-k Inv-loop μ-loop
+mul-k c = omega arith
+
+loop-holds : tie.Need-loop-holds Inv-loop μ-loop
+loop-holds c = (omega (arith, min-le-right (c .before .before .before .args .h .depth) nesting), c .before .whole .ensures, refl)
+
+mul-bl : tie.Need-mul-bl Inv-loop μ-loop
+mul-bl c = omega arith
+
+element-write-bl : tie.Need-element-write-bl Inv-loop μ-loop
+element-write-bl c = omega arith
+
+add-k : tie.Need-add-k Inv-loop μ-loop
+add-k c = omega arith
+
+loop-less : tie.Need-loop-less Inv-loop μ-loop
+loop-less c = omega arith
+
+loop-again : tie.Need-loop-again Inv-loop μ-loop
+loop-again c = let l = c .before .loop in
+    (omega arith, simp length-set (l .inv .1), wipe-more (l .k) (l .bl) (omega arith) (l .inv .1) ∙ l .inv .2)
+
+returns : tie.Need-returns Inv-loop μ-loop
+returns c = let l = c .before .loop in
+    let s = c .before .before .before .before .before .args in
+    tidied (s .h) (s .bl .now) (l .bl) _ (c .before .before .depth-of .ensures) (c .before .before .before .whole .ensures)
+    (wipe-end (l .k) (l .bl) (omega arith) (omega arith) (l .inv .1) ∙ l .inv .2)
+
+pub tidy-spec : {M : Type 1} → statement M
+tidy-spec =
+    tie.close
+    (tie.spec
+    Inv-loop
+    μ-loop
+    whole-requires
+    depth-of-requires
+    cast-k
+    mul-k
+    loop-holds
+    mul-bl
+    element-write-bl
+    add-k
+    loop-less
+    loop-again
+    returns)

@@ -1,0 +1,154 @@
+-- The control rules of one step, with t the executing lanes.
+use mathlib.Core.Bool.{Bool, cond, _&&_, not}
+use mathlib.Core.List.{List, [], _∷_, map}
+use Prim.Native.Nat.{ℕ, _+_, _%_, _^_}
+use lib.ListN.{length}
+use lib.Bits.{bitAnd, bitOr}
+use lib.Dec.{eqb, ltb}
+use Rattle.words.specs.declared.instr.Guard.{Guard}
+use Rattle.lanes.specs.Sets.{without}
+use Rattle.wave.specs.declared.state.Block.{Block}
+use Rattle.blocks.specs.Scan.{nesting}
+use Rattle.wave.specs.Layout.{beforeElse, afterElse, loopPart}
+use Rattle.wave.specs.Wave.{Wave, Preds}
+
+-- ---- the executing lanes
+-- the lanes at which predicate p holds; predicate 0 holds at every active lane
+abbrev pub holding : ℕ → ℕ → Preds → ℕ
+holding p active ps = cond (eqb p 1) (ps .p1) (cond (eqb p 2) (ps .p2) (cond (eqb p 3) (ps .p3) active))
+
+-- the active ones whose predicate agrees
+abbrev pub executingOf : Guard → ℕ → Preds → ℕ
+executingOf g active ps =
+    cond (g .negate) (without active (holding (g .pred) active ps)) (bitAnd active (holding (g .pred) active ps))
+
+-- ---- the place
+-- so many words on; a place of code and what follows it are below 2^32, so that it never wraps there
+abbrev pub onBy : ℕ → ℕ → ℕ
+onBy size place = (place + size) % 2 ^ 32
+
+abbrev pub next : ℕ → ℕ
+next place = onBy 1 place
+
+-- the wave at another place, with other active lanes and another path
+abbrev pub goes : ℕ → ℕ → List Block → Wave → Wave
+goes place active path w = record { place = place; active = active; halted = w .halted; path = path }
+
+-- an instruction of so many words that is no control instruction: on to the next
+abbrev pub onwardBy : ℕ → Wave → Wave
+onwardBy size w = goes (onBy size (w .place)) (w .active) (w .path) w
+
+-- NOP
+abbrev pub onward : Wave → Wave
+onward w = onwardBy 1 w
+
+-- ---- one block
+-- as IF or LOOP opens it
+abbrev pub opening : ℕ → ℕ → ℕ → ℕ → Block
+opening part place active aside =
+    record { part = part; opener = place; entered = active; aside = aside; again = 0; left = 0 }
+
+-- its second half, with the lanes active at ELSE set aside
+abbrev pub turned : ℕ → Block → Block
+turned a b =
+    record { part = afterElse; opener = b .opener; entered = b .entered; aside = a; again = b .again; left = b .left }
+
+-- gone round, with none continued
+abbrev pub wentRound : Block → Block
+wentRound b =
+    record { part = b .part; opener = b .opener; entered = b .entered; aside = b .aside; again = 0; left = b .left }
+
+-- left by the lanes t
+abbrev pub leave : ℕ → Block → Block
+leave t b =
+    record { part = b .part; opener = b .opener; entered = b .entered; aside = b .aside; again = b .again; left = bitOr (b .left) t }
+
+-- broken, continued by the lanes t
+abbrev pub broken : ℕ → Block → Block
+broken t b =
+    record { part = b .part; opener = b .opener; entered = b .entered; aside = bitOr (b .aside) t; again = b .again; left = b .left }
+
+abbrev pub continued : ℕ → Block → Block
+continued t b =
+    record { part = b .part; opener = b .opener; entered = b .entered; aside = b .aside; again = bitOr (b .again) t; left = b .left }
+
+abbrev pub isLoop : Block → Bool
+isLoop b = eqb (b .part) loopPart
+
+-- ---- the path
+-- one block more, where there is room
+abbrev pub opens : Block → List Block → List Block
+opens b p = cond (ltb (length p) nesting) (b ∷ p) p
+
+-- the innermost open loop is changed by f, and the lanes t leave every block inside it
+abbrev pub toLoop : (Block → Block) → ℕ → List Block → List Block
+toLoop f t [] = []
+toLoop f t (b ∷ bs) = cond (isLoop b) (f b ∷ bs) (leave t b ∷ toLoop f t bs)
+
+-- ---- the rules
+-- IF: t stays active, the rest of the active lanes wait
+abbrev pub ifRule : ℕ → Wave → Wave
+ifRule t w =
+    goes (next (w .place)) (bitAnd (w .active) t)
+    (opens (opening beforeElse (w .place) (w .active) (without (w .active) t)) (w .path)) w
+
+-- ELSE: active and waiting lanes change places
+abbrev pub elseOn : List Block → Wave → Wave
+elseOn [] w = onward w
+elseOn (b ∷ bs) w = goes (next (w .place)) (b .aside) (turned (w .active) b ∷ bs) w
+
+abbrev pub elseRule : Wave → Wave
+elseRule w = elseOn (w .path) w
+
+-- ENDIF: the waiting join the active
+abbrev pub endifOn : List Block → Wave → Wave
+endifOn [] w = onward w
+endifOn (b ∷ bs) w = goes (next (w .place)) (bitOr (w .active) (b .aside)) bs w
+
+abbrev pub endifRule : Wave → Wave
+endifRule w = endifOn (w .path) w
+
+-- LOOP: every active lane enters
+abbrev pub loopRule : Wave → Wave
+loopRule w = goes (next (w .place)) (w .active) (opens (opening loopPart (w .place) (w .active) 0) (w .path)) w
+
+-- BREAK, CONTINUE: t becomes inactive and is set aside in the innermost open loop, as broken or as continued
+abbrev pub breakRule : ℕ → Wave → Wave
+breakRule t w = goes (next (w .place)) (without (w .active) t) (toLoop (broken t) t (w .path)) w
+
+abbrev pub continueRule : ℕ → Wave → Wave
+continueRule t w = goes (next (w .place)) (without (w .active) t) (toLoop (continued t) t (w .path)) w
+
+-- ENDLOOP: continued lanes join the active ones. If any is active, go to the word after LOOP, with none continued. Otherwise the
+-- loop closes and its broken lanes become active
+abbrev pub endloopOn : List Block → Wave → Wave
+endloopOn [] w = onward w
+endloopOn (b ∷ bs) w =
+    cond (eqb (bitOr (w .active) (b .again)) 0)
+    (goes (next (w .place)) (b .aside) bs w)
+    (goes (next (b .opener)) (bitOr (w .active) (b .again)) (wentRound b ∷ bs) w)
+
+abbrev pub endloopRule : Wave → Wave
+endloopRule w = endloopOn (w .path) w
+
+-- HALT: t halts for good, and leaves every open block
+abbrev pub haltRule : ℕ → Wave → Wave
+haltRule t w =
+    record {
+      place = next (w .place);
+      active = without (w .active) t;
+      halted = bitOr (w .halted) t;
+      path = map (leave t) (w .path);
+    }
+
+-- BARRIER, with all the launched lanes: fault 5 where some lane is active and some launched, unhalted lane is not
+abbrev pub barred : ℕ → Wave → Bool
+barred all w = not (eqb (w .active) 0) && not (eqb (without all (bitOr (w .active) (w .halted))) 0)
+
+-- the lanes of fault 5 are the active ones
+abbrev pub barrierLanes : ℕ → Wave → ℕ
+barrierLanes all w = cond (barred all w) (w .active) 0
+
+-- at a fault everything is as before the instruction
+abbrev pub barrierRule : ℕ → Wave → Wave
+barrierRule all w = cond (barred all w) w (onward w)

@@ -1,0 +1,18 @@
+// The control rules, each on the hot numbers by value and the lent open blocks. Where a rule finds no block to work on, or no room for one
+// more, it only goes on to the next place.
+use crate::state::Hot;
+use lanes::Lanes;
+
+pub mod aside;
+pub mod barrier;
+pub mod closing;
+pub mod going;
+pub mod guarding;
+pub mod halting;
+pub mod opening;
+
+// After a control instruction: the lanes of fault 5, and the hot numbers.
+pub struct Stepped {
+    pub barrier: Lanes,
+    pub hot: Hot,
+}

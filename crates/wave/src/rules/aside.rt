@@ -1,0 +1,85 @@
+// Setting lanes aside in the innermost open loop: BREAK and CONTINUE.
+use crate::rules::going::after_place;
+use crate::state::AGAIN;
+use crate::state::ASIDE;
+use crate::state::BLOCK_NUMBERS;
+use crate::state::Hot;
+use crate::state::LEFT;
+use crate::state::LOOP;
+use crate::state::NESTING;
+use crate::state::PATH_NUMBERS;
+use crate::state::depth_of;
+use crate::state::whole;
+use lanes::Lanes;
+use lanes::without;
+ghost use mathlib.Core.Path.{_≡_};
+ghost use Prim.Native.Nat.{min};
+ghost use lib.ListN.{set, getD};
+ghost use lib.Bits.{bitOr};
+ghost use Rattle.blocks.specs.Scan.{nesting};
+ghost use Rattle.wave.specs.Layout.{opened, over};
+ghost use Rattle.wave.specs.Wave.{Does};
+ghost use Rattle.wave.specs.Rules.{breakRule, continueRule, toLoop};
+ghost use Rattle.wave.specs.Search.{loopAt, same};
+
+// The outward search through open blocks: the lanes t leave each block inside the innermost loop, whose number is the answer; 32 where no
+// loop is open.
+fn leave_inner(depth: u32, t: Lanes, bl: &mut [u32; PATH_NUMBERS]) -> u32
+    ensures { λ r. ⌜ (r ≡ loopAt (opened (now (bl .entry)) (min depth nesting)))
+        × (now (bl .exit) ≡ over (toLoop same t (opened (now (bl .entry)) (min depth nesting))) (now (bl .entry))) ⌝ }
+{
+    whole(bl);
+    let mut i = depth_of(depth);
+    let n = loop {
+        if i == 0 {
+            break NESTING;
+        }
+        i -= 1;
+        let k = BLOCK_NUMBERS * (i as usize);
+        if bl[k] == LOOP {
+            break i;
+        }
+        bl[k + LEFT] = bl[k + LEFT] | t;
+    };
+    n
+}
+
+// The lanes t join number k; past the array nothing happens.
+fn join_number(k: usize, t: Lanes, bl: &mut [u32; PATH_NUMBERS])
+    ensures { λ r. ⌜ now (bl .exit) ≡ set (now (bl .entry)) k (bitOr (getD (now (bl .entry)) k 0) t) ⌝ }
+{
+    whole(bl);
+    if k < PATH_NUMBERS {
+        bl[k] = bl[k] | t;
+    }
+}
+
+// BREAK: the lanes t are set aside in the innermost open loop, as broken.
+pub(crate) fn break_out(h: Hot, t: Lanes, bl: &mut [u32; PATH_NUMBERS]) -> Hot
+    ensures { λ r. ⌜ Does (breakRule t) h (now (bl .entry)) r (now (bl .exit)) ⌝ }
+{
+    whole(bl);
+    let l = leave_inner(h.depth, t, bl);
+    let k = BLOCK_NUMBERS * (l as usize) + ASIDE;
+    join_number(k, t, bl);
+    let mut n = h;
+    n.place = after_place(h.place);
+    n.active = without(h.active, t);
+    n.depth = depth_of(h.depth);
+    n
+}
+
+// CONTINUE: the lanes t are set aside in the innermost open loop, as continued.
+pub(crate) fn go_on(h: Hot, t: Lanes, bl: &mut [u32; PATH_NUMBERS]) -> Hot
+    ensures { λ r. ⌜ Does (continueRule t) h (now (bl .entry)) r (now (bl .exit)) ⌝ }
+{
+    whole(bl);
+    let l = leave_inner(h.depth, t, bl);
+    let k = BLOCK_NUMBERS * (l as usize) + AGAIN;
+    join_number(k, t, bl);
+    let mut n = h;
+    n.place = after_place(h.place);
+    n.active = without(h.active, t);
+    n.depth = depth_of(h.depth);
+    n
+}

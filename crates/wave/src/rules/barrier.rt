@@ -1,0 +1,33 @@
+// Meeting at a barrier.
+use crate::rules::Stepped;
+use crate::rules::going::after_place;
+use crate::state::Hot;
+use crate::state::PATH_NUMBERS;
+use crate::state::depth_of;
+use crate::state::whole;
+use lanes::Lanes;
+use lanes::without;
+ghost use mathlib.Core.Path.{_≡_};
+ghost use Rattle.wave.specs.Wave.{waveOf};
+ghost use Rattle.wave.specs.Rules.{barrierLanes, barrierRule};
+ghost use Rattle.wave.specs.Control.{given, giving};
+
+// BARRIER: fault 5 where some lane is active and some launched, unhalted lane is not; `all` are the launched lanes.
+pub(crate) fn meet(h: Hot, all: Lanes, bl: &mut [u32; PATH_NUMBERS]) -> Stepped
+    ensures { λ r. ⌜ given r (now (bl .exit)) ≡ giving (barrierLanes all (waveOf h (now (bl .entry)))) (barrierRule all) h (now (bl .entry)) ⌝ }
+{
+    whole(bl);
+    let here = h.active | h.halted;
+    let rest = without(all, here);
+    let stop = (h.active != 0) & (rest != 0);
+    let mut n = h;
+    n.depth = depth_of(h.depth);
+    if stop {
+        return Stepped {
+            barrier: h.active,
+            hot: n,
+        };
+    }
+    n.place = after_place(h.place);
+    Stepped { barrier: 0, hot: n }
+}

@@ -1,0 +1,33 @@
+// Halting.
+use crate::rules::going::after_place;
+use crate::state::BLOCK_NUMBERS;
+use crate::state::Hot;
+use crate::state::LEFT;
+use crate::state::PATH_NUMBERS;
+use crate::state::depth_of;
+use crate::state::whole;
+use lanes::Lanes;
+use lanes::without;
+ghost use mathlib.Core.Path.{_≡_};
+ghost use Rattle.wave.specs.Wave.{Does};
+ghost use Rattle.wave.specs.Rules.{haltRule};
+
+// HALT: the lanes t halt for good, and leave every open block.
+pub(crate) fn halt(h: Hot, t: Lanes, bl: &mut [u32; PATH_NUMBERS]) -> Hot
+    ensures { λ r. ⌜ Does (haltRule t) h (now (bl .entry)) r (now (bl .exit)) ⌝ }
+{
+    whole(bl);
+    let d = depth_of(h.depth);
+    let mut i = d;
+    while 0 < i {
+        i -= 1;
+        let k = BLOCK_NUMBERS * (i as usize) + LEFT;
+        bl[k] = bl[k] | t;
+    }
+    let mut n = h;
+    n.place = after_place(h.place);
+    n.active = without(h.active, t);
+    n.halted = h.halted | t;
+    n.depth = d;
+    n
+}

@@ -1,0 +1,90 @@
+// Opening a block: IF and LOOP.
+use crate::rules::going::after_place;
+use crate::state::AGAIN;
+use crate::state::ASIDE;
+use crate::state::BEFORE_ELSE;
+use crate::state::BLOCK_NUMBERS;
+use crate::state::Block;
+use crate::state::ENTERED;
+use crate::state::Hot;
+use crate::state::LEFT;
+use crate::state::LOOP;
+use crate::state::NESTING;
+use crate::state::OPENER;
+use crate::state::PATH_NUMBERS;
+use crate::state::depth_of;
+use crate::state::whole;
+use lanes::Lanes;
+use lanes::without;
+ghost use mathlib.Core.Path.{_≡_};
+ghost use Prim.Native.Nat.{_<_};
+ghost use Rattle.blocks.specs.Scan.{nesting};
+ghost use Rattle.wave.specs.Layout.{put};
+ghost use Rattle.wave.specs.Wave.{Does};
+ghost use Rattle.wave.specs.Rules.{ifRule, loopRule};
+
+// Block d becomes b.
+fn put_block(d: u32, b: Block, bl: &mut [u32; PATH_NUMBERS])
+    requires { ⌜ d < nesting ⌝ }
+    ensures { λ r. ⌜ now (bl .exit) ≡ put d b (now (bl .entry)) ⌝ }
+{
+    let k = BLOCK_NUMBERS * (d as usize);
+    bl[k] = b.part;
+    bl[k + OPENER] = b.opener;
+    bl[k + ENTERED] = b.entered;
+    bl[k + ASIDE] = b.aside;
+    bl[k + AGAIN] = b.again;
+    bl[k + LEFT] = b.left;
+}
+
+// IF: the lanes t stay active, the rest of the active lanes wait.
+pub(crate) fn open_if(h: Hot, t: Lanes, bl: &mut [u32; PATH_NUMBERS]) -> Hot
+    ensures { λ r. ⌜ Does (ifRule t) h (now (bl .entry)) r (now (bl .exit)) ⌝ }
+{
+    whole(bl);
+    let d = depth_of(h.depth);
+    let wait = without(h.active, t);
+    let mut n = h;
+    n.place = after_place(h.place);
+    n.active = h.active & t;
+    n.depth = d;
+    if d == NESTING {
+        return n;
+    }
+    let b = Block {
+        part: BEFORE_ELSE,
+        opener: h.place,
+        entered: h.active,
+        aside: wait,
+        again: 0,
+        left: 0,
+    };
+    put_block(d, b, bl);
+    n.depth = d + 1;
+    n
+}
+
+// LOOP: every active lane enters.
+pub(crate) fn open_loop(h: Hot, bl: &mut [u32; PATH_NUMBERS]) -> Hot
+    ensures { λ r. ⌜ Does loopRule h (now (bl .entry)) r (now (bl .exit)) ⌝ }
+{
+    whole(bl);
+    let d = depth_of(h.depth);
+    let mut n = h;
+    n.place = after_place(h.place);
+    n.depth = d;
+    if d == NESTING {
+        return n;
+    }
+    let b = Block {
+        part: LOOP,
+        opener: h.place,
+        entered: h.active,
+        aside: 0,
+        again: 0,
+        left: 0,
+    };
+    put_block(d, b, bl);
+    n.depth = d + 1;
+    n
+}
