@@ -10,8 +10,8 @@ use lib.Seq.{take-suc-set, take-all, take-at}
 use Rattle.wave.specs.declared.state.Block.{Block}
 use Rattle.wave.specs.declared.state.Hot.{Hot}
 use Rattle.blocks.specs.Scan.{nesting}
-use Rattle.wave.specs.Layout.{blockNumbers, pathNumbers, six, laid, opened, arrayOf}
-use Rattle.wave.specs.Wave.{waveOf, predsOf, hotOf, held}
+use Rattle.wave.specs.Layout.{blockNumbers, pathNumbers, six, laid, opened}
+use Rattle.wave.specs.Wave.{held, tidied}
 use Rattle.wave.proofs.Laying.{length-laid, length-opened, laid-opened}
 use Rattle.wave.proofs.Ruling.{hotAt}
 
@@ -41,9 +41,9 @@ laid-take xs n h =
     ∙ ap (take (blockNumbers * n)) (sym (laid-append (opened xs n) [] (drop (blockNumbers * n) xs)) ∙ laid-opened xs n h)
 
 -- a tidy array is its wave's own
-pub tidied : (h : Hot) (xs ys : List ℕ) (d : ℕ) → d ≡ min (h .depth) nesting → length xs ≡ pathNumbers → ys ≡ wiped (blockNumbers * d) xs
-    → held (hotAt h (h .place) (h .active) d) ys ≡ held (hotOf (waveOf h xs) (predsOf h)) (arrayOf (waveOf h xs .path))
-tidied h xs ys d e l y =
+pub tidy-end : (h : Hot) (xs ys : List ℕ) (d : ℕ) → d ≡ min (h .depth) nesting → length xs ≡ pathNumbers → ys ≡ wiped (blockNumbers * d) xs
+    → held (hotAt h (h .place) (h .active) d) ys ≡ tidied h xs
+tidy-end h xs ys d e l y =
     let w : wiped (blockNumbers * d) xs ≡ laid (opened xs d) (replicate (pathNumbers - blockNumbers * d) 0) =
     ap (λ (t : List ℕ). t ++ replicate (pathNumbers - blockNumbers * d) 0) (sym (laid-take xs d (omega (arith, min-le-right (h .depth) nesting))))
     ∙ sym (laid-append (opened xs d) [] (replicate (pathNumbers - blockNumbers * d) 0)) in
