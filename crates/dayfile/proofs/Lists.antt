@@ -166,6 +166,14 @@ is-accepted f a = simp (le-ltb (length f) 4 (a .long), le-ltb mostRecords (count
 pub accepted-given : (f : List ℕ) → refusalOf f ≡ 0 → Given f
 accepted-given f e = let a = accepted f e in file-given f (a .few) (a .file)
 
+pub accepted-listed : (f : List ℕ) → refusalOf f ≡ 0 → Listed (bodiesOf f)
+unfolding isFile
+accepted-listed f e =
+    let a = accepted f e in
+    let n = count-bodies f in
+    let few = a .few in
+    record { few = omega arith; each = and-left (allOf isBody (bodiesOf f)) (sameList (fileOf (bodiesOf f)) f) (a .file) }
+
 pub given-accepted : (f : List ℕ) → Given f → refusalOf f ≡ 0
 given-accepted f g =
     let p = parted f (g .bodies) (g .listed) (g .file) in

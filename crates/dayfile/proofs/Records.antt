@@ -8,9 +8,10 @@ use native.Mathlib.Numerals.{add-one}
 use lib.Dec.{eqb}
 use lib.ListN.{length, getD, set, take, drop, length-drop, length-map}
 use lib.Seq.{length-take-le, take-at, drop-cons}
-use borrow.Author.Tests.{lt-ltb, le-ltb, ne-eqb, eq-eqb, le-leb, lt-leb}
+use borrow.Author.Tests.{lt-ltb, le-ltb, ne-eqb, eq-eqb, le-leb, lt-leb, eqb-true, eqb-false}
 use Rattle.ground.specs.Tests.{sameList}
-use Rattle.ground.proofs.Tests.{same-length}
+use mathlib.Core.Logic.{⊎-elim}
+use Rattle.ground.proofs.Tests.{same-length, true-or-false}
 use Rattle.numbers.specs.Numbers.{numberAt, Bytes}
 use Rattle.numbers.specs.Placed.{placed}
 use Rattle.numbers.proofs.Placing.{placed-on, placed-done}
@@ -18,7 +19,7 @@ use Rattle.key.specs.Layout.{notOfLayout}
 use Rattle.dayfile.specs.declared.answer.ReadAnswer.the-variants.{Record, Refused as NotRead}
 use Rattle.dayfile.specs.declared.answer.CountAnswer.the-variants.{Count, Refused as NotCounted}
 use Rattle.dayfile.specs.Day.{mostRecords, short, tooMany, noRecord, tableEnd, table}
-use Rattle.dayfile.specs.Read.{countOf, bodiesOf, isFile, refusalOf, firstSame, placeOf, lengthOf, recordOf, readAnswer, firstsOf, counted, firstsIn, walk}
+use Rattle.dayfile.specs.Read.{countOf, bodiesOf, isFile, refusalOf, firstSame, placeOf, lengthOf, recordOf, readAnswer, firstsOf, Counting, counted, firstsIn, walk}
 use Rattle.dayfile.proofs.Lists.{parted, bodies-file, accepted-given}
 use Rattle.dayfile.proofs.Walks.{peel, walk-is-file, short-file}
 
@@ -199,3 +200,34 @@ module _ (f o : List ℕ) where
     pub firsts-so : (out : List ℕ) → n ≤ length o → out ≡ placed o 0 (firstsOf (bodiesOf f)) → counted (Count n) out ≡ firstsIn f o
     unfolding firstsIn
     firsts-so out h e = simp (eq-eqb (refusalOf f) 0 ok, le-leb (countOf f) (length o) (omega arith)) (rw (e, en))
+
+-- ---- what the answer of `firsts` says, where there is room
+
+module _ (f o out : List ℕ) (room : refusalOf f ≡ 0 → countOf f ≤ length o) where
+  pub count-says : (n : ℕ) → counted (Count n) out ≡ firstsIn f o → (refusalOf f ≡ 0) × (n ≡ countOf f) × (out ≡ placed o 0 (firstsOf (bodiesOf f)))
+  unfolding firstsIn
+  count-says n e =
+      ⊎-elim
+      (λ (h : eqb (refusalOf f) 0 ≡ true).
+      let z : counted (Count n) out ≡ counted (Count (countOf f)) (placed o 0 (firstsOf (bodiesOf f))) = e ∙ simp (h, le-leb (countOf f) (length o) (room (eqb-true (refusalOf f) 0 h))) in
+      let a : Count n ≡ Count (countOf f) = ap (λ (m : Counting). m .answer) z in
+      (eqb-true (refusalOf f) 0 h, cc, ap (λ (m : Counting). m .out) z))
+      (λ (h : eqb (refusalOf f) 0 ≡ false).
+      let z : counted (Count n) out ≡ counted (NotCounted (refusalOf f) 0) o = e ∙ simp h in
+      let a : Count n ≡ NotCounted (refusalOf f) 0 = ap (λ (m : Counting). m .answer) z in
+      absurd (let y : _≡_ {A = ℕ} 0 1 = cc in omega arith))
+      (true-or-false (eqb (refusalOf f) 0))
+
+  pub refused-count-says : (k p : ℕ) → counted (NotCounted k p) out ≡ firstsIn f o → (refusalOf f ≡ 0 → ⊥) × (k ≡ refusalOf f)
+  unfolding firstsIn
+  refused-count-says k p e =
+      ⊎-elim
+      (λ (h : eqb (refusalOf f) 0 ≡ true).
+      let z : counted (NotCounted k p) out ≡ counted (Count (countOf f)) (placed o 0 (firstsOf (bodiesOf f))) = e ∙ simp (h, le-leb (countOf f) (length o) (room (eqb-true (refusalOf f) 0 h))) in
+      let a : NotCounted k p ≡ Count (countOf f) = ap (λ (m : Counting). m .answer) z in
+      absurd (let y : _≡_ {A = ℕ} 0 1 = cc in omega arith))
+      (λ (h : eqb (refusalOf f) 0 ≡ false).
+      let z : counted (NotCounted k p) out ≡ counted (NotCounted (refusalOf f) 0) o = e ∙ simp h in
+      let a : NotCounted k p ≡ NotCounted (refusalOf f) 0 = ap (λ (m : Counting). m .answer) z in
+      (eqb-false (refusalOf f) 0 h, cc))
+      (true-or-false (eqb (refusalOf f) 0))

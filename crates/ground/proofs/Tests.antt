@@ -1,11 +1,12 @@
 -- Tests decided: what a test that holds or fails says, when two tests agree, and the tests over lists.
 use mathlib.Core.Path.{_≡_, refl, sym, ap, ap₂, _∙_}
-use Prim.Native.Nat.{ℕ}
+use Prim.Native.Nat.{ℕ, zero, suc, _<_}
+use native.Mathlib.Omega.{arith}
 use mathlib.Core.Bool.{Bool, true, false, _||_}
 use mathlib.Core.List.{List, [], _∷_}
 use mathlib.Core.Logic.{_⊎_, ⊎-elim, inl, inr}
 use lib.Dec.{eqb}
-use lib.ListN.{length}
+use lib.ListN.{length, getD}
 use borrow.Author.Tests.{eq-eqb, eqb-true}
 use Rattle.ground.specs.Tests.{sameList, oneOf, allOf}
 use Rattle.ground.proofs.Bools.{never, and-left, and-right, and-both}
@@ -54,3 +55,10 @@ one-all f xs (ys ∷ yss) e a =
     (λ (h : sameList xs ys ≡ true). ap f (same-true xs ys h) ∙ and-left (f ys) (allOf f yss) a)
     (λ (h : oneOf xs yss ≡ true). one-all f xs yss h (and-right (f ys) (allOf f yss) a))
     (or-cases (sameList xs ys) (oneOf xs yss) e)
+
+-- a test of every element holds of each
+pub all-at : {A : Type 0} (t : A → Bool) (xs : List A) (k : ℕ) (d : A) → allOf t xs ≡ true → k < length xs → t (getD xs k d) ≡ true
+unfolding allOf
+all-at t [] k d e h = absurd (omega arith)
+all-at t (x ∷ xs) zero d e h = and-left (t x) (allOf t xs) e
+all-at t (x ∷ xs) (suc k) d e h = all-at t xs k d (and-right (t x) (allOf t xs) e) (omega arith)

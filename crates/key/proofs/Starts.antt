@@ -78,11 +78,11 @@ pub size-eq : (s : List ℕ) → sizeAt s ≡ 24 + 8 * countAt s + 24 * depthAt 
 unfolding sizeAt headSize
 size-eq s = refl
 
-count-eq : (s : List ℕ) → length (partsAt s .faults) ≡ countAt s
+pub count-eq : (s : List ℕ) → length (partsAt s .faults) ≡ countAt s
 unfolding partsAt
 count-eq s = length-each (faultAt s) 8 12 (countAt s)
 
-depth-eq : (s : List ℕ) → length (partsAt s .blocks) ≡ depthAt s
+pub depth-eq : (s : List ℕ) → length (partsAt s .blocks) ≡ depthAt s
 unfolding partsAt
 depth-eq s = length-each (blockAt s) 24 (headSize s) (depthAt s)
 
