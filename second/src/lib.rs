@@ -1,0 +1,16 @@
+//! Page 01 of the replay desk written a second time, as simply as possible: what the proved programs
+//! are compared with.
+
+pub mod arithmetic;
+pub mod blocks;
+pub mod bytes;
+pub mod control;
+pub mod dayfile;
+pub mod key;
+pub mod listing;
+pub mod operations;
+pub mod refusal;
+pub mod run;
+pub mod state;
+pub mod step;
+pub mod words;
