@@ -7,6 +7,8 @@ use crate::run::Outcome;
 use crate::state::State;
 use crate::step::Faults;
 
+/// The most bytes of a body.
+pub const LONGEST_BODY: usize = 808;
 /// The largest place that a body holds.
 const LARGEST_PLACE: u32 = 65_535;
 /// The lists of fault kinds that a body holds.

@@ -2,15 +2,20 @@
 //! are compared with.
 
 pub mod arithmetic;
+pub mod assembly;
 pub mod blocks;
 pub mod bytes;
+pub mod capture;
+pub mod commands;
 pub mod control;
 pub mod dayfile;
 pub mod key;
 pub mod listing;
 pub mod operations;
 pub mod refusal;
+pub mod report;
 pub mod run;
 pub mod state;
 pub mod step;
+pub mod text;
 pub mod words;
