@@ -178,7 +178,7 @@ pub fn state_words(state: &State) -> Vec<u32> {
 }
 
 /// The state of these words, none for no words. `end` is the byte after them.
-fn state_of(words: &[u32], end: usize) -> Result<Option<State>, Unreadable> {
+pub fn state_of(words: &[u32], end: usize) -> Result<Option<State>, Unreadable> {
     let Some((&[place, active, halted, p1, p2, p3, depth], rest)) = words.split_first_chunk()
     else {
         return Ok(None);

@@ -6,6 +6,7 @@ pub mod assembly;
 pub mod blocks;
 pub mod bytes;
 pub mod capture;
+pub mod cases;
 pub mod commands;
 pub mod control;
 pub mod dayfile;

@@ -2,12 +2,20 @@
 
 use std::process::ExitCode;
 
+use second::cases::commands as cases;
 use second::commands;
 
 const HELP: &str = "\
 second pack TEXT FILE            packs a readable capture into a file
 second show FILE                 prints a capture file as readable text
 second replay FILE [OUT] [KEY]   replays a capture: a report, the end state, a fault's key
+second cases SEED COUNT          writes random cases; SEED is a number or new
+second answers                   answers the cases on standard input
+second compare CASES ANSWERS     compares another program's answers with its own
+second reached CASES             prints how often cases reach each thing; fails where never
+second case CASES NUMBER         prints one case and its answer as text
+second against SEED COUNT PROGRAM [ARGUMENT..]
+                                 hands random cases to a program and compares its answers
 ";
 
 fn main() -> ExitCode {
@@ -19,6 +27,14 @@ fn main() -> ExitCode {
         ["replay", file] => commands::replay(file, None, None),
         ["replay", file, out] => commands::replay(file, Some(out), None),
         ["replay", file, out, key] => commands::replay(file, Some(out), Some(key)),
+        ["cases", seed, count] => cases::cases(seed, count),
+        ["answers"] => cases::answers(),
+        ["compare", cases, answers] => cases::compare(cases, answers),
+        ["reached", cases] => cases::reached(cases),
+        ["case", cases, number] => cases::case(cases, number),
+        ["against", seed, count, ref program @ ..] if !program.is_empty() => {
+            cases::against(seed, count, program)
+        }
         ["help"] => commands::say(HELP),
         _ => Err(format!("expected one of\n{HELP}").trim_end().to_string()),
     };

@@ -104,15 +104,17 @@ fn fields(operation: Operation, word0: u32, word1: u32) -> Instruction {
     }
 }
 
+/// Whether an operation may stand on a predicate from 1 to 3.
+pub fn takes_predicate(operation: Operation) -> bool {
+    use Operation::*;
+    !matches!(operation, Else | Endif | Loop | Endloop | Barrier | Nop)
+}
+
 /// Whether the predicate may stand with the operation.
 fn predicate_form_allowed(instruction: &Instruction) -> bool {
-    use Operation::*;
-    match instruction.operation {
-        If => instruction.predicate != 0,
-        Else | Endif | Loop | Endloop | Barrier | Nop => {
-            instruction.predicate == 0 && !instruction.negate
-        }
-        _ => instruction.predicate != 0 || !instruction.negate,
+    match instruction.predicate {
+        0 => !instruction.negate && instruction.operation != Operation::If,
+        _ => takes_predicate(instruction.operation),
     }
 }
 
