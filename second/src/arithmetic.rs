@@ -8,6 +8,7 @@ fn signed(value: u32) -> i32 {
 }
 
 /// The result of an operation on two registers. The divisor isn't 0: that is a fault, told apart before.
+#[inline(always)]
 pub fn two_sources(operation: Operation, a: u32, b: u32) -> u32 {
     use Operation::*;
     match operation {
@@ -20,7 +21,7 @@ pub fn two_sources(operation: Operation, a: u32, b: u32) -> u32 {
         Urem => a % b,
         Min => signed(a).min(signed(b)) as u32,
         Max => signed(a).max(signed(b)) as u32,
-        Mulhi => (u64::from(a) * u64::from(b) >> 32) as u32,
+        Mulhi => ((u64::from(a) * u64::from(b)) >> 32) as u32,
         And => a & b,
         Or => a | b,
         Xor => a ^ b,
@@ -38,6 +39,7 @@ pub fn divides(operation: Operation) -> bool {
 }
 
 /// Whether a comparison of two registers holds.
+#[inline(always)]
 pub fn compare(operation: Operation, a: u32, b: u32) -> bool {
     use Operation::*;
     match operation {
@@ -50,6 +52,7 @@ pub fn compare(operation: Operation, a: u32, b: u32) -> bool {
 }
 
 /// The result of an operation on one register.
+#[inline(always)]
 pub fn one_source(operation: Operation, a: u32) -> u32 {
     use Operation::*;
     match operation {
@@ -72,6 +75,7 @@ pub fn special(number: u32, lane: u32) -> u32 {
 }
 
 /// The word that an ATOMIC leaves in memory, from the old word and its operand.
+#[inline(always)]
 pub fn atomic(operation: Operation, old: u32, operand: u32) -> u32 {
     use Operation::*;
     match operation {

@@ -154,7 +154,7 @@ fn counts(header: &[u32; HEADER]) -> Result<[usize; 5], Unreadable> {
         }
     }
     let blocks = counts[4].wrapping_sub(STATE_WORDS);
-    if counts[4] != 0 && (counts[4] < STATE_WORDS || blocks % BLOCK_WORDS != 0) {
+    if counts[4] != 0 && (counts[4] < STATE_WORDS || !blocks.is_multiple_of(BLOCK_WORDS)) {
         return wrong(
             4 * (COUNTS + 4),
             "a count of 0 or 7 + 6 x depth state words",

@@ -3,6 +3,7 @@
 
 pub mod arithmetic;
 pub mod assembly;
+pub mod bench;
 pub mod blocks;
 pub mod bytes;
 pub mod capture;

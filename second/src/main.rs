@@ -2,6 +2,7 @@
 
 use std::process::ExitCode;
 
+use second::bench;
 use second::cases::commands as cases;
 use second::commands;
 
@@ -16,6 +17,8 @@ second reached CASES             prints how often cases reach each thing; fails 
 second case CASES NUMBER         prints one case and its answer as text
 second against SEED COUNT PROGRAM [ARGUMENT..]
                                  hands random cases to a program and compares its answers
+second bench                     prints the time per step of two interpreters
+second kernels FOLDER BUDGET     writes the captures of the timed kernels
 ";
 
 fn main() -> ExitCode {
@@ -35,6 +38,8 @@ fn main() -> ExitCode {
         ["against", seed, count, ref program @ ..] if !program.is_empty() => {
             cases::against(seed, count, program)
         }
+        ["bench"] => bench::bench(),
+        ["kernels", folder, budget] => bench::write_kernels(folder, budget),
         ["help"] => commands::say(HELP),
         _ => Err(format!("expected one of\n{HELP}").trim_end().to_string()),
     };

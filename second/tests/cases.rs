@@ -1,5 +1,6 @@
 //! The random cases: their format, what they reach, and what every run they make keeps to.
 
+use second::bench::decoded;
 use second::bytes;
 use second::capture::Capture;
 use second::cases::agreement;
@@ -122,6 +123,19 @@ fn a_run_in_parts_is_the_whole_run() {
         assert_eq!(parts.registers, whole.registers);
         assert_eq!(parts.device, whole.device);
         assert_eq!(parts.local, whole.local);
+    }
+}
+
+#[test]
+fn the_decoding_interpreter_gives_the_same() {
+    for mut capture in captures(18, 3000) {
+        let mut other = capture.clone();
+        let expected = capture.run();
+        let refused = matches!(expected.outcome, Outcome::Refused(_));
+        if capture.state.is_none() && !refused {
+            assert_eq!(decoded::run(&mut other), expected);
+            assert_eq!(other, capture);
+        }
     }
 }
 

@@ -121,61 +121,42 @@ fn reading_one_instruction() {
     assert_eq!(read("3F000095"), Ok(1));
 }
 
+/// Writes an instruction into so many words, which stay as lent where it is refused.
+fn write(instruction: Instruction, room: usize) -> Result<usize, Refusal> {
+    let mut output = vec![7; room];
+    let result = words::write(&instruction, &mut output);
+    if result.is_err() {
+        assert_eq!(output, vec![7; room]);
+    }
+    result
+}
+
 #[test]
 fn writing_one_instruction() {
-    let plain = Instruction::plain;
-    let write = |instruction: Instruction, room: usize| {
-        let mut output = vec![7; room];
-        let result = words::write(&instruction, &mut output);
-        if result.is_err() {
-            assert_eq!(output, vec![7; room]);
-        }
-        result
-    };
-    let add = plain(Operation::Add);
-    assert_eq!(write(add, 2), Ok(2));
-    assert_eq!(write(add, 1), Err(at(13, 0)));
-    assert_eq!(write(plain(Operation::If), 0), Err(at(12, 0)), "before 13");
-    for bad in [
-        Instruction { rd: 256, ..add },
-        Instruction { rs1: 256, ..add },
-        Instruction { rs2: 256, ..add },
-        Instruction { rs3: 1, ..add },
-        Instruction { number: 1, ..add },
-        Instruction { scope: 1, ..add },
-        Instruction {
-            predicate: 4,
-            ..add
-        },
-        Instruction {
-            negate: true,
-            ..add
-        },
-        Instruction {
-            rd: 4,
-            ..plain(Operation::Eq)
-        },
-        Instruction {
-            rs1: 3,
-            ..plain(Operation::MovSpecial)
-        },
-        Instruction {
-            rs2: 1,
-            ..plain(Operation::Neg)
-        },
-        Instruction {
-            rd: 1,
-            ..plain(Operation::Halt)
-        },
-        Instruction {
-            scope: 4,
-            ..plain(Operation::Cas)
-        },
-        Instruction {
-            rs2: 1,
-            ..plain(Operation::Load)
-        },
-    ] {
+    use Operation::*;
+    assert_eq!(write(Instruction::plain(Add), 2), Ok(2));
+    assert_eq!(write(Instruction::plain(Add), 1), Err(at(13, 0)));
+    let branch = Instruction::plain(If);
+    assert_eq!(write(branch, 0), Err(at(12, 0)), "before 13");
+    let changes: [(Operation, fn(&mut Instruction)); 14] = [
+        (Add, |i| i.rd = 256),
+        (Add, |i| i.rs1 = 256),
+        (Add, |i| i.rs2 = 256),
+        (Add, |i| i.rs3 = 1),
+        (Add, |i| i.number = 1),
+        (Add, |i| i.scope = 1),
+        (Add, |i| i.predicate = 4),
+        (Add, |i| i.negate = true),
+        (Eq, |i| i.rd = 4),
+        (MovSpecial, |i| i.rs1 = 3),
+        (Neg, |i| i.rs2 = 1),
+        (Halt, |i| i.rd = 1),
+        (Cas, |i| i.scope = 4),
+        (Load, |i| i.rs2 = 1),
+    ];
+    for (operation, change) in changes {
+        let mut bad = Instruction::plain(operation);
+        change(&mut bad);
         assert_eq!(write(bad, 2), Err(at(12, 0)), "{bad:?}");
     }
 }

@@ -145,46 +145,13 @@ fn read_one(rest: &mut &[u32]) -> Option<Case> {
     *rest = next;
     let mut take = Take { rest: content };
     let case = match kind {
-        1 => {
-            let count = take.number()? as usize;
-            Case::Read {
-                words: take.words(count)?,
-            }
-        }
-        2 => Case::Write {
-            instruction: take.instruction()?,
-            room: take.number()? as usize,
-        },
+        1 => take.read()?,
+        2 => take.write()?,
         3 => take.run()?,
-        4 => {
-            let [kernel, room] = take.numbers()?;
-            Case::Key {
-                kernel,
-                outcome: take.outcome()?,
-                state: take.state()?,
-                room: room as usize,
-            }
-        }
-        5 => {
-            let [length, room] = take.numbers()?;
-            Case::Make {
-                bodies: take.bytes(length as usize)?,
-                room: room as usize,
-            }
-        }
-        6 => {
-            let [record, length] = take.numbers()?;
-            Case::File {
-                file: take.bytes(length as usize)?,
-                record,
-            }
-        }
-        7 => {
-            let length = take.number()? as usize;
-            Case::Listing {
-                file: take.bytes(length)?,
-            }
-        }
+        4 => take.key()?,
+        5 => take.make()?,
+        6 => take.file()?,
+        7 => take.listing()?,
         _ => return None,
     };
     take.rest.is_empty().then_some(case)
@@ -259,6 +226,47 @@ impl Take<'_> {
     fn state(&mut self) -> Option<State> {
         let words = self.words(self.rest.len())?;
         capture::state_of(&words, 0).ok().flatten()
+    }
+
+    fn read(&mut self) -> Option<Case> {
+        let count = self.number()? as usize;
+        let words = self.words(count)?;
+        Some(Case::Read { words })
+    }
+
+    fn write(&mut self) -> Option<Case> {
+        let instruction = self.instruction()?;
+        let room = self.number()? as usize;
+        Some(Case::Write { instruction, room })
+    }
+
+    fn key(&mut self) -> Option<Case> {
+        let [kernel, room] = self.numbers()?;
+        Some(Case::Key {
+            kernel,
+            outcome: self.outcome()?,
+            state: self.state()?,
+            room: room as usize,
+        })
+    }
+
+    fn make(&mut self) -> Option<Case> {
+        let [length, room] = self.numbers()?;
+        let bodies = self.bytes(length as usize)?;
+        let room = room as usize;
+        Some(Case::Make { bodies, room })
+    }
+
+    fn file(&mut self) -> Option<Case> {
+        let [record, length] = self.numbers()?;
+        let file = self.bytes(length as usize)?;
+        Some(Case::File { file, record })
+    }
+
+    fn listing(&mut self) -> Option<Case> {
+        let length = self.number()? as usize;
+        let file = self.bytes(length)?;
+        Some(Case::Listing { file })
     }
 
     fn run(&mut self) -> Option<Case> {
