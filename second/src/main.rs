@@ -15,6 +15,7 @@ second answers                   answers the cases on standard input
 second compare CASES ANSWERS     compares another program's answers with its own
 second reached CASES             prints how often cases reach each thing; fails where never
 second case CASES NUMBER         prints one case and its answer as text
+second extract CASES NUMBER FILE writes the capture of a run among the cases
 second against SEED COUNT PROGRAM [ARGUMENT..]
                                  hands random cases to a program and compares its answers
 second bench                     prints the time per step of two interpreters
@@ -35,6 +36,7 @@ fn main() -> ExitCode {
         ["compare", cases, answers] => cases::compare(cases, answers),
         ["reached", cases] => cases::reached(cases),
         ["case", cases, number] => cases::case(cases, number),
+        ["extract", cases, number, file] => cases::extract(cases, number, file),
         ["against", seed, count, ref program @ ..] if !program.is_empty() => {
             cases::against(seed, count, program)
         }

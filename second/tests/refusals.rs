@@ -138,7 +138,8 @@ fn writing_one_instruction() {
     assert_eq!(write(Instruction::plain(Add), 1), Err(at(13, 0)));
     let branch = Instruction::plain(If);
     assert_eq!(write(branch, 0), Err(at(12, 0)), "before 13");
-    let changes: [(Operation, fn(&mut Instruction)); 14] = [
+    type Change = fn(&mut Instruction);
+    let changes: [(Operation, Change); 14] = [
         (Add, |i| i.rd = 256),
         (Add, |i| i.rs1 = 256),
         (Add, |i| i.rs2 = 256),

@@ -2,6 +2,7 @@
 //! find their word.
 
 use super::random::Random;
+use crate::arithmetic;
 use crate::operations::{Form, Operation};
 use crate::words::{self, Instruction};
 
@@ -164,11 +165,21 @@ impl<'a> Coder<'a> {
             )
         });
         let instruction = instruction(self.random, operation, self.registers);
-        if crate::arithmetic::divides(operation) && self.random.chance(75) {
-            let divisor = self.random.word().max(1);
-            self.immediate(instruction.rs2, divisor);
+        if arithmetic::divides(operation) && self.random.chance(75) {
+            self.divisor(&instruction);
         }
         self.emit(&instruction);
+    }
+
+    /// Gives the divisor a number that isn't 0; at times the two of the overflowing quotient.
+    fn divisor(&mut self, division: &Instruction) {
+        if self.random.chance(20) {
+            self.immediate(division.rs1, 0x80000000);
+            self.immediate(division.rs2, 0xFFFFFFFF);
+        } else {
+            let divisor = self.random.word().max(1);
+            self.immediate(division.rs2, divisor);
+        }
     }
 
     fn comparison(&mut self) {
@@ -241,10 +252,7 @@ impl<'a> Coder<'a> {
         (instruction.predicate, instruction.negate) = (predicate, negate);
         match operation.form() {
             Form::Comparison => instruction.rd = 2 + self.random.below(2) as u32,
-            Form::TwoSources if crate::arithmetic::divides(operation) => {
-                let divisor = self.random.word().max(1);
-                self.immediate(instruction.rs2, divisor);
-            }
+            Form::TwoSources if arithmetic::divides(operation) => self.divisor(&instruction),
             Form::Memory | Form::Atomic | Form::CompareAndSwap => {
                 let address = 4 * self.random.below(8) as u32;
                 self.immediate(instruction.rs1, address.wrapping_sub(instruction.number));
@@ -354,6 +362,22 @@ impl<'a> Coder<'a> {
             }
         }
         self.plain(Operation::Endloop);
+    }
+
+    /// Control instructions one after another, mostly an opener first, whatever blocks are open.
+    pub fn control_only(&mut self, count: usize) {
+        use Operation::*;
+        let all = [
+            If, Else, Else, Else, Endif, Loop, Break, Continue, Endloop, Nop,
+        ];
+        if self.random.chance(80) {
+            let opener = self.random.pick(&[If, If, Loop]);
+            self.some(opener);
+        }
+        for _ in 0..count {
+            let operation = self.random.pick(&all);
+            self.some(operation);
+        }
     }
 
     /// So many items without blocks.

@@ -9,7 +9,7 @@ use super::answer::answer;
 use super::reached::Reached;
 use super::{Case, agreement, format, make};
 use crate::bytes;
-use crate::commands::{Done, read_file, say};
+use crate::commands::{Done, read_file, say, write_file};
 
 /// How many cases are handed to another program at once.
 const BATCH: u64 = 1000;
@@ -81,26 +81,35 @@ pub fn reached(cases_path: &str) -> Done {
     reached.check()
 }
 
-/// Prints one case of a file as text, and the answer's parts.
-pub fn case(cases_path: &str, number_text: &str) -> Done {
+/// Case NUMBER of a file, counted from 1.
+fn one_case(cases_path: &str, number_text: &str) -> Result<Case, String> {
     let cases = read_cases(cases_path)?;
     let index = count(number_text)?.checked_sub(1);
-    let Some(case) = index.and_then(|index| cases.get(index as usize)) else {
-        return Err(format!("{cases_path}: no case {number_text}"));
-    };
-    say(&format!(
-        "# {}\n{}\n",
-        agreement::name(case),
-        agreement::describe(case)
-    ))?;
-    for part in answer(case, &mut Reached::default()).parts {
-        say(&format!(
-            "{}: {}\n",
-            part.name,
-            agreement::hex(&part.numbers)
-        ))?;
+    let found = index.and_then(|index| cases.into_iter().nth(index as usize));
+    found.ok_or(format!("{cases_path}: no case {number_text}"))
+}
+
+/// Prints one case of a file as text, and the answer's parts.
+pub fn case(cases_path: &str, number_text: &str) -> Done {
+    let case = one_case(cases_path, number_text)?;
+    let (name, text) = (agreement::name(&case), agreement::describe(&case));
+    say(&format!("# {name}\n{text}\n"))?;
+    for part in answer(&case, &mut Reached::default()).parts {
+        let numbers = agreement::hex(&part.numbers);
+        say(&format!("{}: {numbers}\n", part.name))?;
     }
     Ok(())
+}
+
+/// Writes the capture of a run among the cases.
+pub fn extract(cases_path: &str, number_text: &str, path: &str) -> Done {
+    match one_case(cases_path, number_text)? {
+        Case::Run { capture, .. } => write_file(path, &capture.write()),
+        other => Err(format!(
+            "expected a run, found: {}",
+            agreement::name(&other)
+        )),
+    }
 }
 
 /// Hands cases 1 to COUNT of a seed to another program, batch by batch, and compares its answers.

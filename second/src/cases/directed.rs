@@ -4,9 +4,9 @@ use super::code::{Coder, words_of};
 use super::make::{capture, settings};
 use super::random::Random;
 use super::{Case, files, states};
-use crate::blocks::LOOP;
 use crate::listing::LONGEST_FILE;
 use crate::operations::Operation;
+use crate::state::State;
 use crate::words::Instruction;
 
 /// A launch that carries out every instruction that isn't control.
@@ -75,7 +75,7 @@ pub fn nested(random: &mut Random, depth: usize, resumed: bool) -> Case {
     }
 }
 
-/// A run stopped inside twelve blocks, with a lane added to the again set of an IF among them.
+/// A run stopped inside twelve blocks, with a lane moved to the again set of an IF among them.
 pub fn again_of_an_if(random: &mut Random) -> Case {
     let settings = settings(random);
     let mut capture = capture(random, settings);
@@ -84,10 +84,25 @@ pub fn again_of_an_if(random: &mut Random) -> Case {
     capture.code = coder.code;
     capture.settings.budget = 12;
     let mut state = capture.run().state;
-    if let Some(block) = state.blocks.iter_mut().find(|block| block.part != LOOP) {
-        block.again |= 1;
-    }
+    states::again_of_an_if(random, &mut state, 1);
     capture.state = Some(state);
+    Case::Run {
+        capture,
+        key_room: 0,
+    }
+}
+
+/// A few control instructions in any order, with their ends missing at times.
+pub fn control_only(random: &mut Random) -> Case {
+    let settings = settings(random);
+    let mut capture = capture(random, settings);
+    let mut coder = Coder::new(random, settings.registers, 0, 0);
+    let count = 1 + coder.random.below(5);
+    coder.control_only(count);
+    capture.code = coder.code;
+    if random.chance(40) {
+        capture.state = Some(State::launched(settings.lanes));
+    }
     Case::Run {
         capture,
         key_room: 0,

@@ -25,14 +25,14 @@ pub fn case(seed: u64, number: u64) -> Case {
         8 => directed::full_file(random),
         9 => directed::full_listing(random),
         10 => directed::too_long_file(),
-        11 if number % 5000 == 12 => directed::longest(random),
+        11 if number % 5000 == 4012 => directed::longest(random),
         _ => any(random),
     }
 }
 
 /// A case of any kind.
 fn any(random: &mut Random) -> Case {
-    match random.weighted(&[10, 10, 29, 27, 7, 6, 7, 6, 2, 4]) {
+    match random.weighted(&[10, 10, 29, 27, 7, 6, 7, 6, 2, 4, 8]) {
         0 => read(random),
         1 => write(random),
         2 => run(random, false),
@@ -44,7 +44,8 @@ fn any(random: &mut Random) -> Case {
             file: some_file(random),
         },
         8 => directed::sweep(random),
-        _ => directed::jumps(random),
+        9 => directed::jumps(random),
+        _ => directed::control_only(random),
     }
 }
 

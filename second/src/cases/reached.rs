@@ -2,9 +2,10 @@
 
 use std::collections::BTreeMap;
 
-use crate::blocks::{DEEPEST, LOOP};
+use crate::blocks::{self, DEEPEST, LOOP};
 use crate::capture::Capture;
 use crate::operations::Operation;
+use crate::refusal::Refusal;
 use crate::run::{Answer, Outcome};
 use crate::state::{Misfit, State};
 use crate::step;
@@ -30,7 +31,7 @@ const REFUSALS: [(&str, &[usize]); 10] = [
 ];
 
 /// The groups that have labels of their own.
-const LABELS: [(&str, &[&str]); 8] = [
+const LABELS: [(&str, &[&str]); 9] = [
     ("a launch answers", &["ended", "out of budget", "fault"]),
     (
         "a resumed run answers",
@@ -45,6 +46,20 @@ const LABELS: [(&str, &[&str]); 8] = [
             "predicate form",
             "predicate number",
             "special number",
+        ],
+    ),
+    (
+        "refusal 8",
+        &[
+            "ELSE outside",
+            "ELSE after ELSE",
+            "ELSE in a loop",
+            "ENDIF outside",
+            "ENDIF in a loop",
+            "ENDLOOP outside",
+            "ENDLOOP in an IF",
+            "BREAK",
+            "CONTINUE",
         ],
     ),
     (
@@ -154,6 +169,7 @@ impl Reached {
         match answer.outcome {
             Outcome::Refused(refusal) => {
                 self.refusal(group, refusal.number);
+                self.stray(capture, refusal);
                 return self.misfit(capture, refusal.number);
             }
             Outcome::Ended => self.count(answers, "ended"),
@@ -165,6 +181,29 @@ impl Reached {
         }
         self.refusal(group, 0);
         self.edges(capture, answer);
+    }
+
+    /// Counts what stood where it can't.
+    fn stray(&mut self, capture: &Capture, refusal: Refusal) {
+        if refusal.number != 8 {
+            return;
+        }
+        let place = refusal.place as usize;
+        let operation = words::instruction_at(&capture.code, place).operation;
+        let open = blocks::open_at(&capture.code, refusal.place).unwrap_or_default();
+        let part = open.last().map_or(0, |block| block.part);
+        let label = match (operation, part) {
+            (Operation::Else, 0) => "ELSE outside",
+            (Operation::Else, LOOP) => "ELSE in a loop",
+            (Operation::Else, _) => "ELSE after ELSE",
+            (Operation::Endif, 0) => "ENDIF outside",
+            (Operation::Endif, _) => "ENDIF in a loop",
+            (Operation::Endloop, 0) => "ENDLOOP outside",
+            (Operation::Endloop, _) => "ENDLOOP in an IF",
+            (Operation::Break, _) => "BREAK",
+            _ => "CONTINUE",
+        };
+        self.count("refusal 8", label);
     }
 
     /// Counts why a state was refused.

@@ -102,18 +102,21 @@ pub fn damage(random: &mut Random, capture: &mut Capture) {
             state.blocks.resize(length, Block::default());
         }
         8 => *any_set(random, state) = random.bits(),
-        _ => damage_entered(random, state, lane),
+        _ => damage_entered(random, state, first_lanes(launched.min(32)), lane),
     }
 }
 
-/// Puts a lane into the entered or left set of some block, or takes it out.
-fn damage_entered(random: &mut Random, state: &mut State, lane: u32) {
+/// Puts a lane into the entered or left set of some block, or takes it out; or puts a lane that is in
+/// neither into the entered set.
+fn damage_entered(random: &mut Random, state: &mut State, launched: u32, lane: u32) {
     if !state.blocks.is_empty() {
         let index = random.below(state.blocks.len());
         let block = &mut state.blocks[index];
-        match random.below(3) {
+        let outside = launched & !block.entered;
+        match random.below(4) {
             0 => block.entered ^= lane,
             1 => block.left ^= lane,
+            2 => block.entered |= outside & outside.wrapping_neg(),
             _ => (block.entered, block.left) = (block.entered ^ lane, block.left ^ lane),
         }
     }
@@ -163,14 +166,18 @@ fn damage_blocks(random: &mut Random, state: &mut State) {
     }
 }
 
-/// Moves a lane's place to the again set of some IF's block.
-fn again_of_an_if(random: &mut Random, state: &mut State, lane: u32) {
+/// Moves a lane that waits in some IF's block to its again set, or only adds one there.
+pub fn again_of_an_if(random: &mut Random, state: &mut State, lane: u32) {
     let ifs: Vec<usize> = (0..state.blocks.len())
         .filter(|index| state.blocks[*index].part != LOOP)
         .collect();
-    if !ifs.is_empty() {
-        let block = &mut state.blocks[random.pick(&ifs)];
-        block.again |= lane;
-        block.aside &= !lane;
+    let waiting = |index: &usize| state.blocks[*index].aside != 0;
+    if let Some(index) = ifs.iter().copied().find(waiting) {
+        let block = &mut state.blocks[index];
+        let waits = block.aside & block.aside.wrapping_neg();
+        block.again |= waits;
+        block.aside &= !waits;
+    } else if !ifs.is_empty() {
+        state.blocks[random.pick(&ifs)].again |= lane;
     }
 }
