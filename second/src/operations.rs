@@ -28,9 +28,8 @@ macro_rules! operations {
     ($($variant:ident $number:literal $form:ident $name:literal),* $(,)?) => {
         /// An operation: its opcode, and its modifier where the opcode lists several.
         #[derive(Clone, Copy, Debug, PartialEq, Eq)]
-        #[repr(u16)]
         pub enum Operation {
-            $($variant = $number),*
+            $($variant),*
         }
 
         impl Operation {
@@ -42,6 +41,13 @@ macro_rules! operations {
                 match number {
                     $($number => Some(Operation::$variant),)*
                     _ => None,
+                }
+            }
+
+            /// Opcode times 16 plus modifier.
+            pub fn number(self) -> u32 {
+                match self {
+                    $(Operation::$variant => $number),*
                 }
             }
 
@@ -118,11 +124,6 @@ operations! {
 }
 
 impl Operation {
-    /// Opcode times 16 plus modifier.
-    pub fn number(self) -> u32 {
-        self as u32
-    }
-
     /// The operation with this name, if there is one.
     pub fn with_name(name: &str) -> Option<Operation> {
         Self::ALL.iter().copied().find(|op| op.name() == name)

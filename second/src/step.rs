@@ -77,28 +77,27 @@ fn faults(
 ) -> Faults {
     let operation = instruction.operation;
     let mut faults = [0; 5];
-    if operation == Operation::Barrier {
-        if kernel.launched & !state.halted & !state.active != 0 {
-            faults[4] = executing;
-        }
-        return faults;
-    }
-    for lane in each_lane(executing) {
-        let register = |r: u32| lent.registers[place_of(kernel, lane, r)];
-        let kind = match operation.form() {
-            Form::Memory | Form::Atomic | Form::CompareAndSwap => address_fault(
-                address(instruction, register(instruction.rs1)),
-                operation,
-                lent,
-            ),
-            Form::TwoSources if arithmetic::divides(operation) => {
-                (register(instruction.rs2) == 0).then_some(4)
+    match operation.form() {
+        Form::Memory | Form::Atomic | Form::CompareAndSwap => {
+            for lane in each_lane(executing) {
+                let base = lent.registers[place_of(kernel, lane, instruction.rs1)];
+                if let Some(kind) = address_fault(address(instruction, base), operation, lent) {
+                    faults[kind - 1] |= 1 << lane;
+                }
             }
-            _ => None,
-        };
-        if let Some(kind) = kind {
-            faults[kind - 1] |= 1 << lane;
         }
+        Form::TwoSources if arithmetic::divides(operation) => {
+            for lane in each_lane(executing) {
+                let divisor = lent.registers[place_of(kernel, lane, instruction.rs2)];
+                faults[3] |= u32::from(divisor == 0) << lane;
+            }
+        }
+        Form::Control if operation == Operation::Barrier => {
+            if kernel.launched & !state.halted & !state.active != 0 {
+                faults[4] = executing;
+            }
+        }
+        _ => (),
     }
     faults
 }
