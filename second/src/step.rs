@@ -76,6 +76,7 @@ fn faults(
     lent: &Lent,
 ) -> Faults {
     let operation = instruction.operation;
+    let apart = kernel.launched & !state.halted & !state.active != 0;
     let mut faults = [0; 5];
     match operation.form() {
         Form::Memory | Form::Atomic | Form::CompareAndSwap => {
@@ -92,11 +93,7 @@ fn faults(
                 faults[3] |= u32::from(divisor == 0) << lane;
             }
         }
-        Form::Control if operation == Operation::Barrier => {
-            if kernel.launched & !state.halted & !state.active != 0 {
-                faults[4] = executing;
-            }
-        }
+        Form::Control if operation == Operation::Barrier && apart => faults[4] = executing,
         _ => (),
     }
     faults
