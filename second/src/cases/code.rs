@@ -368,9 +368,9 @@ impl<'a> Coder<'a> {
     pub fn control_only(&mut self, count: usize) {
         use Operation::*;
         let all = [
-            If, Else, Else, Else, Endif, Loop, Break, Continue, Endloop, Nop,
+            If, Else, Else, Else, Endif, Endif, Loop, Break, Continue, Endloop, Endloop,
         ];
-        if self.random.chance(80) {
+        if self.random.chance(70) {
             let opener = self.random.pick(&[If, If, Loop]);
             self.some(opener);
         }
