@@ -264,7 +264,7 @@ def list_cases(full):
 
 
 def random_cases(rng):
-    for _ in range(150):
+    for _ in range(60):
         pool = [random_body(rng) for _ in range(rng.randrange(1, 5))]
         bodies = [rng.choice(pool) for _ in range(rng.randrange(1, 7))]
         data = file_of(bodies)
@@ -311,8 +311,8 @@ def stored():
     """Every stored file and its bytes."""
     rng = random.Random(1)
     pool = [random_body(rng) for _ in range(900)]
-    short = [b for b in pool if len(b) <= 40]
-    full = [rng.choice(short) for _ in range(MOST_RECORDS)]
+    short = [b for b in pool if len(b) == 32]
+    full = [rng.choice(short) for _ in range(MOST_RECORDS - 3)] + [b for b in pool if len(b) == 40][:3]
     cases = [*body_cases(), *make_cases(full), *read_cases(full), *list_cases(full), *random_cases(rng)]
     page = file_of([T13, T13])
     return {
@@ -341,4 +341,5 @@ def main():
         sys.exit('not what tests/day_files.py gives: ' + ', '.join(wrong))
 
 
-main()
+if __name__ == '__main__':
+    main()
