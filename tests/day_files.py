@@ -1,8 +1,8 @@
 #!/usr/bin/env python3
-"""day_files.py write|check: the stored inputs and answers of the day file's programs.
+"""The stored inputs and answers of the day file's programs.
 
-Written from page 01 alone ("The key", "The day file" and the table of refusals), it shares nothing with the crates. `write` puts
-each program's files into crates/; `check` fails where a stored file is not what this script gives.
+Written from page 01 alone ("The key", "The day file" and the table of refusals), it shares nothing with the crates. `--write` puts
+each program's files into crates/; `--check` fails where a stored file is not what this script gives.
 
 day_cases reads cases one after another, each three numbers of four bytes, low byte first, and then bytes:
 an operation, its argument, how many bytes (FFFFFFFF: the bytes of the case before). It prints an answer for each.
@@ -264,7 +264,7 @@ def list_cases(full):
 
 
 def random_cases(rng):
-    for _ in range(150):
+    for _ in range(60):
         pool = [random_body(rng) for _ in range(rng.randrange(1, 5))]
         bodies = [rng.choice(pool) for _ in range(rng.randrange(1, 7))]
         data = file_of(bodies)
@@ -311,8 +311,8 @@ def stored():
     """Every stored file and its bytes."""
     rng = random.Random(1)
     pool = [random_body(rng) for _ in range(900)]
-    short = [b for b in pool if len(b) <= 40]
-    full = [rng.choice(short) for _ in range(MOST_RECORDS)]
+    short = [b for b in pool if len(b) == 32]
+    full = [rng.choice(short) for _ in range(MOST_RECORDS - 3)] + [b for b in pool if len(b) == 40][:3]
     cases = [*body_cases(), *make_cases(full), *read_cases(full), *list_cases(full), *random_cases(rng)]
     page = file_of([T13, T13])
     return {
@@ -327,18 +327,20 @@ def stored():
 
 
 def main():
-    if sys.argv[1:] not in (['write'], ['check']):
+    if sys.argv[1:] not in (['--write'], ['--check']):
         sys.exit(__doc__)
     wrong = []
     for name, data in stored().items():
         path = ROOT / name
-        if sys.argv[1] == 'write':
+        if sys.argv[1] == '--write':
             path.parent.mkdir(parents=True, exist_ok=True)
             path.write_bytes(data)
         elif not path.exists() or path.read_bytes() != data:
             wrong.append(str(path))
     if wrong:
         sys.exit('not what tests/day_files.py gives: ' + ', '.join(wrong))
+    print('day_files: as stored')
 
 
-main()
+if __name__ == '__main__':
+    main()

@@ -11,6 +11,9 @@ use key::BodyAnswer;
 use libc::STDIN_FILENO;
 use libc::STDOUT_FILENO;
 use numbers::get;
+ghost use mathlib.Core.Path.{_≡_};
+ghost use Prim.Native.Nat.{_<_};
+ghost use lib.ListN.{length};
 
 fn put_word(word: &[u8]) {
     io::write_all(STDOUT_FILENO, word);
@@ -70,7 +73,9 @@ fn sum_of(bytes: &[u8]) -> usize {
     sum
 }
 
-fn wide(x: u8) -> usize {
+fn wide(x: u8) -> usize
+    ensures { λ r. ⌜ r < 256 ⌝ }
+{
     x as usize
 }
 
@@ -86,8 +91,15 @@ fn answer_make(bytes: &[u8], out: &mut [u8]) {
     end_line();
 }
 
+// Bytes A5, to see what of a buffer is changed. The `ensures` gives only the length, which lending the array as a slice needs.
+fn marked_buffer() -> [u8; 65536]
+    ensures { λ r. ⌜ 65536 ≡ length r ⌝ }
+{
+    [165; 65536]
+}
+
 fn answer_make_in(bytes: &[u8], room: usize) {
-    let mut buffer = [165u8; 65536];
+    let mut buffer = marked_buffer();
     if room <= 65536 {
         answer_make(bytes, &mut buffer[..room]);
     }
@@ -136,8 +148,15 @@ fn answer_all(cases: &[u8]) {
     }
 }
 
+// Room for the cases. The `ensures` gives only the length, which lending the array as a slice needs.
+fn cases_buffer() -> [u8; 500000]
+    ensures { λ r. ⌜ 500000 ≡ length r ⌝ }
+{
+    [0; 500000]
+}
+
 fn main() {
-    let mut cases = [0u8; 1048576];
+    let mut cases = cases_buffer();
     let n = io::read_full(STDIN_FILENO, &mut cases);
     answer_all(&cases[..n]);
 }

@@ -1,5 +1,6 @@
 // Makes a day file from bodies that lie one after another in the file that the first argument names, or on standard input where
-// there is none. The day file goes to standard output; a refusal's number and place go to standard error.
+// there is none: up to 64 KiB of them, as a longer day file is not listed either. The day file goes to standard output; a refusal's
+// number and place go to standard error.
 use dayfile::answer::MakeAnswer;
 use libc::STDERR_FILENO;
 use libc::STDIN_FILENO;
@@ -14,14 +15,18 @@ fn refuse(number: u32, place: usize) {
     io::write_all(STDERR_FILENO, b"\n");
 }
 
-// Makes the file of what can be read. One byte more than 1,024 of the longest bodies is read: what is longer is refused all the same.
+// Makes the file of what can be read. One byte more than 64 KiB is read, so that more shows.
 fn make_from(fd: i32) {
-    let mut bodies = [0u8; 827393];
+    let mut bodies = [0u8; 65537];
     let n = io::read_full(fd, &mut bodies);
-    let mut file = [0u8; 835588];
+    if 65536 < n {
+        io::write_all(STDERR_FILENO, b"too long\n");
+        return;
+    }
+    let mut file = [0u8; 73732];
     match dayfile::make(&bodies[..n], &mut file) {
         MakeAnswer::Made(k) => {
-            if k <= 835588 {
+            if k <= 73732 {
                 io::write_all(STDOUT_FILENO, &file[..k]);
             }
         }
