@@ -1,4 +1,4 @@
--- ENDLOOP: the loop closes where no lane is left to go round, and its innermost block goes where it does.
+-- ENDLOOP: either the loop closes, and the array stays as it is, or it goes round, and one store forgets its continued lanes.
 use mathlib.Core.Path.{refl}
 use Rattle.wave.specs.Rules.{endloopRule}
 use Rattle.wave.proofs.Ruling.{Begun, none-open, done-one, round-one}
@@ -7,8 +7,10 @@ use Rattle.wave.proofs.rules.closing.end_loop.Statement.{statement}
 use Rattle.wave.proofs.rules.closing.end_loop.Tie as tie
 
 -- what is read before any block is looked at
-begun : (z : tie.After-after-place) → Begun (z .before .before .before .before .args .h) (z .before .before .before .before .args .bl .now) (z .before .depth-of .result) (z .after-place .result)
-begun z = record { long = z .before .before .whole .ensures; depth = z .before .depth-of .ensures; place = z .after-place .ensures }
+begun : (z : tie.After-after-place)
+    → Begun (z .before .before .before .before .args .h) (z .before .before .before .before .args .bl .now) (z .before .depth-of .result) (z .after-place .result)
+begun z =
+    record { long = z .before .before .whole .ensures; depth = z .before .depth-of .ensures; place = z .after-place .ensures }
 
 whole-requires : tie.Need-whole-requires
 whole-requires c κs = search needs

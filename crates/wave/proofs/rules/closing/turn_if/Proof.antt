@@ -7,8 +7,10 @@ use Rattle.wave.proofs.rules.closing.turn_if.Statement.{statement}
 use Rattle.wave.proofs.rules.closing.turn_if.Tie as tie
 
 -- what is read before any block is looked at
-begun : (z : tie.After-after-place) → Begun (z .before .before .before .before .args .h) (z .before .before .before .before .args .bl .now) (z .before .depth-of .result) (z .after-place .result)
-begun z = record { long = z .before .before .whole .ensures; depth = z .before .depth-of .ensures; place = z .after-place .ensures }
+begun : (z : tie.After-after-place)
+    → Begun (z .before .before .before .before .args .h) (z .before .before .before .before .args .bl .now) (z .before .depth-of .result) (z .after-place .result)
+begun z =
+    record { long = z .before .before .whole .ensures; depth = z .before .depth-of .ensures; place = z .after-place .ensures }
 
 whole-requires : tie.Need-whole-requires
 whole-requires c κs = search needs

@@ -8,8 +8,10 @@ use Rattle.wave.proofs.rules.opening.open_if.Statement.{statement}
 use Rattle.wave.proofs.rules.opening.open_if.Tie as tie
 
 -- what is read before any block is looked at
-begun : (z : tie.After-after-place) → Begun (z .before .before .before .before .before .args .h) (z .before .before .before .before .before .args .bl .now) (z .before .before .depth-of .result) (z .after-place .result)
-begun z = record { long = z .before .before .before .whole .ensures; depth = z .before .before .depth-of .ensures; place = z .after-place .ensures }
+begun : (z : tie.After-after-place)
+    → Begun (z .before .before .before .before .before .args .h) (z .before .before .before .before .before .args .bl .now) (z .before .before .depth-of .result) (z .after-place .result)
+begun z =
+    record { long = z .before .before .before .whole .ensures; depth = z .before .before .depth-of .ensures; place = z .after-place .ensures }
 
 -- the block that it opens
 abbrev block : tie.After-after-place → Block
@@ -28,7 +30,8 @@ after-place-requires : tie.Need-after-place-requires
 after-place-requires c κs = search needs
 
 returns : tie.Need-returns
-returns c = let z = c .before .before in full (begun z) (ifRule (z .before .before .before .before .before .args .t)) _ (block z) (c .if1 .taken) (rw (z .before .without .ensures))
+returns c = let z = c .before .before in
+    full (begun z) (ifRule (z .before .before .before .before .before .args .t)) _ (block z) (c .if1 .taken) (rw (z .before .without .ensures))
 
 put-block-requires : tie.Need-put-block-requires
 put-block-requires c κs = search needs
@@ -37,7 +40,8 @@ add-n : tie.Need-add-n
 add-n c = search needs
 
 returns-2 : tie.Need-returns-2
-returns-2 c = let z = c .before .before .before .before in opened-one (begun z) (ifRule (z .before .before .before .before .before .args .t)) _ (block z) (c .before .before .if1 .left) (rw (z .before .without .ensures)) _ (c .put-block .ensures)
+returns-2 c = let z = c .before .before .before .before in
+    opened-one (begun z) (ifRule (z .before .before .before .before .before .args .t)) _ (block z) (c .before .before .if1 .left) (rw (z .before .without .ensures)) _ (c .put-block .ensures)
 
 pub open-if-spec : {M : Type 1} → statement M
 open-if-spec =

@@ -9,8 +9,10 @@ use Rattle.wave.proofs.rules.opening.open_loop.Statement.{statement}
 use Rattle.wave.proofs.rules.opening.open_loop.Tie as tie
 
 -- what is read before any block is looked at
-begun : (z : tie.After-after-place) → Begun (z .before .before .before .before .args .h) (z .before .before .before .before .args .bl .now) (z .before .depth-of .result) (z .after-place .result)
-begun z = record { long = z .before .before .whole .ensures; depth = z .before .depth-of .ensures; place = z .after-place .ensures }
+begun : (z : tie.After-after-place)
+    → Begun (z .before .before .before .before .args .h) (z .before .before .before .before .args .bl .now) (z .before .depth-of .result) (z .after-place .result)
+begun z =
+    record { long = z .before .before .whole .ensures; depth = z .before .depth-of .ensures; place = z .after-place .ensures }
 
 -- the block that it opens
 abbrev block : tie.Start → Block
@@ -26,7 +28,8 @@ after-place-requires : tie.Need-after-place-requires
 after-place-requires c κs = search needs
 
 returns : tie.Need-returns
-returns c = let s = c .before .before .before .before .before in full (begun (c .before)) loopRule _ (block s) (c .if1 .taken) refl
+returns c = let s = c .before .before .before .before .before in
+    full (begun (c .before)) loopRule _ (block s) (c .if1 .taken) refl
 
 put-block-requires : tie.Need-put-block-requires
 put-block-requires c κs = search needs
@@ -35,7 +38,8 @@ add-n : tie.Need-add-n
 add-n c = search needs
 
 returns-2 : tie.Need-returns-2
-returns-2 c = let s = c .before .before .before .before .before .before .before in opened-one (begun (c .before .before .before)) loopRule _ (block s) (c .before .before .if1 .left) refl _ (c .put-block .ensures)
+returns-2 c = let s = c .before .before .before .before .before .before .before in
+    opened-one (begun (c .before .before .before)) loopRule _ (block s) (c .before .before .if1 .left) refl _ (c .put-block .ensures)
 
 pub open-loop-spec : {M : Type 1} → statement M
 open-loop-spec =
