@@ -6,18 +6,19 @@ use Rattle.words.specs.declared.instr.Op.{Op}
 use Rattle.words.specs.declared.instr.Instr.{Instr}
 use Rattle.words.specs.declared.registers.Registers.{Registers}
 
+-- RD, RS1, RS2 and RS3 in order
 abbrev pub registers : Bool → Bool → Bool → Bool → Registers
 registers d a b c = record { rd = d; rs1 = a; rs2 = b; rs3 = c }
 
--- RD, RS1, RS2, RS3. RD of a comparison names a predicate, RS1 of MOV_SPECIAL is a special number; a store has the stored register in RD.
+-- which fields of an operation are registers: RD of a comparison names a predicate, RS1 of MOV_SPECIAL is a special number; a store has the stored register in RD.
 abbrev pub registersOf : Op → Registers
 registersOf (Op.Two o) = registers true true true false
 registersOf (Op.Compare o) = registers false true true false
 registersOf (Op.One o) = registers true true false false
 registersOf Op.Special = registers true false false false
-registersOf Op.Number = registers true false false false
 registersOf (Op.Load s) = registers true true false false
 registersOf (Op.Store s) = registers true true false false
+registersOf Op.Number = registers true false false false
 registersOf (Op.Atomic o) = registers true true true false
 registersOf Op.Cas = registers true true true true
 registersOf (Op.Control o) = registers false false false false

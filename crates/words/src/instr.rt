@@ -1,6 +1,6 @@
-// An instruction, and what its words may hold.
+// An instruction: its operation, the lanes that it is for, and its fields.
 
-// The operations, by form.
+// The operations of two registers, RS1 and RS2.
 pub enum TwoOp {
     Add,
     Sub,
@@ -20,6 +20,7 @@ pub enum TwoOp {
     Sar,
 }
 
+// The comparisons: their RD is a predicate.
 pub enum CompareOp {
     Eq,
     Ne,
@@ -27,6 +28,7 @@ pub enum CompareOp {
     Ge,
 }
 
+// The operations of one register, RS1.
 pub enum OneOp {
     Neg,
     Abs,
@@ -35,6 +37,7 @@ pub enum OneOp {
     Mov,
 }
 
+// What ATOMIC does to a word of device memory.
 pub enum AtomicOp {
     Add,
     Sub,
@@ -48,6 +51,7 @@ pub enum AtomicOp {
     Xchg,
 }
 
+// The control instructions.
 pub enum ControlOp {
     If,
     Else,
@@ -61,6 +65,7 @@ pub enum ControlOp {
     Nop,
 }
 
+// The memory that a load or a store is for.
 pub enum Space {
     Device,
     Local,
@@ -80,11 +85,6 @@ pub enum Op {
     Control(ControlOp),
 }
 
-pub enum FoundOp {
-    Carried(Op),
-    Missing,
-}
-
 // The lanes that an instruction is for: predicate 0, not negated, is every lane.
 pub struct Guard {
     pub pred: u8,
@@ -101,30 +101,4 @@ pub struct Instr {
     pub rs3: u8,
     pub scope: u8,
     pub number: u32,
-}
-
-// What the second word of an operation is; of registers, how large each field may be.
-pub enum Second {
-    Nothing,
-    Number,
-    Registers { rs2: u8, rs3: u8, scope: u8 },
-}
-
-// How large an operation's fields may be: 0 where it does not use one. RD is at least `least`. `need`: 0 any predicate, 1 not 0, 2 only 0.
-pub struct Limits {
-    pub least: u8,
-    pub rd: u8,
-    pub rs1: u8,
-    pub need: u8,
-    pub second: Second,
-}
-
-pub enum ReadAnswer {
-    Read { instr: Instr, words: usize },
-    Refused { rule: u8 },
-}
-
-pub enum WriteAnswer {
-    Wrote { words: usize },
-    Refused { rule: u8 },
 }

@@ -1,6 +1,6 @@
 // Which fields of an instruction are registers: those that refusal 7 tests, and that gathering and writing use.
 ghost use mathlib.Core.Path.{_≡_};
-ghost use Rattle.words.specs.Registers.{registersOf, below, registersBelow};
+ghost use Rattle.words.specs.Registers.{registers, registersOf, below, registersBelow};
 use crate::instr::Instr;
 use crate::instr::Op;
 
@@ -12,71 +12,33 @@ pub struct Registers {
     pub rs3: bool,
 }
 
-// Which fields are registers of an operation.
+// The four in order.
+fn fields(rd: bool, rs1: bool, rs2: bool, rs3: bool) -> Registers
+    ensures { λ r. ⌜ r ≡ registers rd rs1 rs2 rs3 ⌝ }
+{
+    Registers {
+        rd: rd,
+        rs1: rs1,
+        rs2: rs2,
+        rs3: rs3,
+    }
+}
+
+// Which fields of an operation are registers. RD of a comparison is a predicate, RS1 of MOV_SPECIAL a special number.
 pub fn registers_of(op: Op) -> Registers
     ensures { λ r. ⌜ r ≡ registersOf op ⌝ }
 {
     match op {
-        Op::Two(_) => Registers {
-            rd: true,
-            rs1: true,
-            rs2: true,
-            rs3: false,
-        },
-        Op::Compare(_) => Registers {
-            rd: false,
-            rs1: true,
-            rs2: true,
-            rs3: false,
-        },
-        Op::One(_) => Registers {
-            rd: true,
-            rs1: true,
-            rs2: false,
-            rs3: false,
-        },
-        Op::Special => Registers {
-            rd: true,
-            rs1: false,
-            rs2: false,
-            rs3: false,
-        },
-        Op::Number => Registers {
-            rd: true,
-            rs1: false,
-            rs2: false,
-            rs3: false,
-        },
-        Op::Load(_) => Registers {
-            rd: true,
-            rs1: true,
-            rs2: false,
-            rs3: false,
-        },
-        Op::Store(_) => Registers {
-            rd: true,
-            rs1: true,
-            rs2: false,
-            rs3: false,
-        },
-        Op::Atomic(_) => Registers {
-            rd: true,
-            rs1: true,
-            rs2: true,
-            rs3: false,
-        },
-        Op::Cas => Registers {
-            rd: true,
-            rs1: true,
-            rs2: true,
-            rs3: true,
-        },
-        Op::Control(_) => Registers {
-            rd: false,
-            rs1: false,
-            rs2: false,
-            rs3: false,
-        },
+        Op::Two(_) => fields(true, true, true, false),
+        Op::Compare(_) => fields(false, true, true, false),
+        Op::One(_) => fields(true, true, false, false),
+        Op::Special => fields(true, false, false, false),
+        Op::Load(_) => fields(true, true, false, false),
+        Op::Store(_) => fields(true, true, false, false),
+        Op::Number => fields(true, false, false, false),
+        Op::Atomic(_) => fields(true, true, true, false),
+        Op::Cas => fields(true, true, true, true),
+        Op::Control(_) => fields(false, false, false, false),
     }
 }
 

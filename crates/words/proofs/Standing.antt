@@ -1,0 +1,25 @@
+-- Words at a place, and words at the start of what is left there: reading gives an instruction where its words stand, and only there.
+use mathlib.Core.Path.{_≡_, sym, _∙_, ap}
+use mathlib.Core.List.{List, _++_}
+use Prim.Native.Nat.{ℕ}
+use lib.ListN.{length, take, drop, take-append-drop}
+use lib.Seq.{take-append-seam}
+use Rattle.words.specs.declared.instr.Instr.{Instr}
+use Rattle.words.specs.declared.reading.ReadAnswer.{ReadAnswer}
+use Rattle.words.specs.Layout.{wordsOf}
+use Rattle.words.specs.Rules.{Stands}
+use Rattle.words.specs.Reading.{readFrom, readAt}
+use Rattle.words.proofs.FromInstr.{read-written}
+use Rattle.words.proofs.FromWords.{Starts, read-back}
+
+pub stood : (ws : List ℕ) (at : ℕ) (i : Instr) (n : ℕ) → readAt ws at ≡ ReadAnswer.Read i n → Stands ws at i × (n ≡ length (wordsOf i))
+stood ws at i n e =
+    let s : Starts (drop at ws) i n = read-back i n at (drop at ws) e in
+    ((s .ok, ap (take (length (wordsOf i))) (s .words) ∙ take-append-seam (wordsOf i) (drop n (drop at ws))), s .count)
+
+pub standing : (ws : List ℕ) (at : ℕ) (i : Instr) → Stands ws at i → readAt ws at ≡ ReadAnswer.Read i (length (wordsOf i))
+standing ws at i h =
+    let k = length (wordsOf i) in
+    let there : drop at ws ≡ wordsOf i ++ drop k (drop at ws) =
+    sym (take-append-drop k (drop at ws)) ∙ ap (λ (l : List ℕ). l ++ drop k (drop at ws)) (h .1) in
+    ap (λ (l : List ℕ). readFrom l at) there ∙ read-written i (h .0) (drop k (drop at ws)) at

@@ -1,0 +1,124 @@
+-- What is proved of reading and writing one instruction, over all words, places, instructions and outputs. Reading gives exactly the valid
+-- instructions whose words stand there (`reads`), and refuses exactly by the first rule broken (`refuses`); writing undoes reading, and
+-- reading undoes writing.
+use mathlib.Core.Path.{_≡_, refl, sym, _∙_, ap, subst}
+use mathlib.Core.Bool.{true, cond}
+use mathlib.Core.List.{List, [], _++_}
+use mathlib.Core.Logic.{_↔_}
+use Prim.Native.Nat.{ℕ, _≤_, _<_}
+use native.Mathlib.Omega.{arith}
+use lib.Dec.{leb}
+use lib.ListN.{length, take, drop}
+use borrow.Author.Tests.{le-leb, lt-leb}
+use Rattle.ground.proofs.Bools.{never}
+use Rattle.words.specs.declared.instr.Instr.{Instr}
+use Rattle.words.specs.declared.reading.ReadAnswer.{ReadAnswer}
+use Rattle.words.specs.declared.writing.WriteAnswer.{WriteAnswer}
+use Rattle.words.specs.Forms.{valid}
+use Rattle.words.specs.Layout.{wordsOf}
+use Rattle.words.specs.Refusals.{Rule, numberOf}
+use Rattle.words.specs.Rules.{Stands, Breaks}
+use Rattle.words.specs.Reading.{refused, readFrom, readAt}
+use Rattle.words.specs.Writing.{Written, written, writeOf}
+use Rattle.words.proofs.FromInstr.{read-written}
+use Rattle.words.proofs.Standing.{stood, standing}
+use Rattle.words.proofs.Verdicts.{Verdict, verdict, not-carried, second-missing, wrong-field, Outcome, outcome}
+
+-- READING
+
+-- an instruction of n words is read exactly if it is valid, its words stand there, and they are n
+pub reads : (ws : List ℕ) (at : ℕ) (i : Instr) (n : ℕ) → (readAt ws at ≡ ReadAnswer.Read i n) ↔ (Stands ws at i × (n ≡ length (wordsOf i)))
+reads ws at i n = (stood ws at i n, λ h. standing ws at i (h .0) ∙ ap (ReadAnswer.Read i) (sym (h .1)))
+
+-- the rule of a number
+abbrev ruleOf : ℕ → Rule
+ruleOf n = cond (leb n 4) Rule.carried (cond (leb n 5) Rule.second (cond (leb n 6) Rule.field (cond (leb n 12) Rule.words Rule.room)))
+
+rule-back : (rule : Rule) → ruleOf (numberOf rule) ≡ rule
+rule-back Rule.carried = refl
+rule-back Rule.second = refl
+rule-back Rule.field = refl
+rule-back Rule.words = refl
+rule-back Rule.room = refl
+
+-- a rule's refusal is answered exactly if it is the first rule broken
+pub refuses : (ws : List ℕ) (at : ℕ) (rule : Rule) → (readAt ws at ≡ refused rule at) ↔ Breaks ws at rule
+refuses ws at rule = (λ e. forth e (verdict ws at), back rule)
+  where
+    forth : readAt ws at ≡ refused rule at → Verdict ws at → Breaks ws at rule
+    forth e (Verdict.read i n f) = let z : _≡_ {A = ℕ} 0 1 = cc in absurd (omega arith)
+    forth e (Verdict.broken other b f) =
+        let same : numberOf other ≡ numberOf rule = cc in
+        subst (Breaks ws at) (sym (rule-back other) ∙ ap ruleOf same ∙ rule-back rule) b
+
+    back : (r : Rule) → Breaks ws at r → readAt ws at ≡ refused r at
+    back Rule.carried h = not-carried ws at h
+    back Rule.second h = second-missing ws at h
+    back Rule.field h = wrong-field ws at (h .0) (h .1) (h .2) (h .3)
+    back Rule.words h = absurd h
+    back Rule.room h = absurd h
+
+-- WRITING
+
+module _ (i : Instr) (out : List ℕ) where
+  -- 12 exactly if no words read as this instruction
+  pub no-words-give :
+      (writeOf i out .answer ≡ WriteAnswer.Refused (numberOf Rule.words) 0) ↔ ((ws : List ℕ) (at n : ℕ) → readAt ws at ≡ ReadAnswer.Read i n → ⊥)
+  no-words-give = (λ e. forth e (outcome i out), λ none. back none (outcome i out))
+    where
+      forth :
+          writeOf i out .answer ≡ WriteAnswer.Refused (numberOf Rule.words) 0 → Outcome i out →
+          (ws : List ℕ) (at n : ℕ) → readAt ws at ≡ ReadAnswer.Read i n → ⊥
+      forth e (Outcome.no-words bad f) ws at n g = never (sym bad ∙ stood ws at i n g .0 .0)
+      forth e (Outcome.no-room ok h f) ws at n g = let a = ap (λ (x : Written). x .answer) f in let z : _≡_ {A = ℕ} 12 13 = cc in omega arith
+      forth e (Outcome.wrote ok h f) ws at n g = let a = ap (λ (x : Written). x .answer) f in let z : _≡_ {A = ℕ} 0 1 = cc in omega arith
+
+      back :
+          ((ws : List ℕ) (at n : ℕ) → readAt ws at ≡ ReadAnswer.Read i n → ⊥) → Outcome i out →
+          writeOf i out .answer ≡ WriteAnswer.Refused (numberOf Rule.words) 0
+      back none (Outcome.no-words bad f) = ap (λ (x : Written). x .answer) f
+      back none (Outcome.no-room ok h f) = absurd (none (wordsOf i ++ []) 0 _ (read-written i ok [] 0))
+      back none (Outcome.wrote ok h f) = absurd (none (wordsOf i ++ []) 0 _ (read-written i ok [] 0))
+
+  -- 13 exactly if its words are more than the output has
+  pub no-room-left :
+      (writeOf i out .answer ≡ WriteAnswer.Refused (numberOf Rule.room) 0) ↔ ((valid i ≡ true) × (length out < length (wordsOf i)))
+  no-room-left = (λ e. forth e (outcome i out), λ h. rw (h .0, lt-leb (length (wordsOf i)) (length out) (h .1)))
+    where
+      forth :
+          writeOf i out .answer ≡ WriteAnswer.Refused (numberOf Rule.room) 0 → Outcome i out → (valid i ≡ true) × (length out < length (wordsOf i))
+      forth e (Outcome.no-words bad f) = let a = ap (λ (x : Written). x .answer) f in let z : _≡_ {A = ℕ} 12 13 = cc in absurd (omega arith)
+      forth e (Outcome.no-room ok h f) = (ok, h)
+      forth e (Outcome.wrote ok h f) = let a = ap (λ (x : Written). x .answer) f in let z : _≡_ {A = ℕ} 0 1 = cc in absurd (omega arith)
+
+  -- it is written exactly if it is valid and fits: then its words stand first and the rest is as lent
+  pub writes :
+      (n : ℕ) → (writeOf i out .answer ≡ WriteAnswer.Wrote n) ↔ ((valid i ≡ true) × (n ≡ length (wordsOf i)) × (n ≤ length out))
+  writes n = (λ e. forth e (outcome i out), back)
+    where
+      forth : writeOf i out .answer ≡ WriteAnswer.Wrote n → Outcome i out → (valid i ≡ true) × (n ≡ length (wordsOf i)) × (n ≤ length out)
+      forth e (Outcome.no-words bad f) = let a = ap (λ (x : Written). x .answer) f in let z : _≡_ {A = ℕ} 0 1 = cc in absurd (omega arith)
+      forth e (Outcome.no-room ok h f) = let a = ap (λ (x : Written). x .answer) f in let z : _≡_ {A = ℕ} 0 1 = cc in absurd (omega arith)
+      forth e (Outcome.wrote ok h f) =
+          let a = ap (λ (x : Written). x .answer) f in let same : n ≡ length (wordsOf i) = cc in (ok, same, rw same h)
+
+      back : (valid i ≡ true) × (n ≡ length (wordsOf i)) × (n ≤ length out) → writeOf i out .answer ≡ WriteAnswer.Wrote n
+      back h = let fit : length (wordsOf i) ≤ length out = rw (h .1) at (h .2) in rw (h .0, le-leb _ _ fit, h .1)
+
+  -- what is written reads back, whatever stood in the output
+  pub written-reads : (n : ℕ) → writeOf i out .answer ≡ WriteAnswer.Wrote n → readAt (writeOf i out .after) 0 ≡ ReadAnswer.Read i n
+  written-reads n e =
+      let h = writes n .0 e in
+      let fit : length (wordsOf i) ≤ length out = rw (h .1) at (h .2) in
+      let after : writeOf i out .after ≡ wordsOf i ++ drop (length (wordsOf i)) out = rw (h .0, le-leb _ _ fit) in
+      ap (λ (l : List ℕ). readFrom l 0) after ∙ read-written i (h .0) (drop (length (wordsOf i)) out) 0 ∙ ap (ReadAnswer.Read i) (sym (h .1))
+
+  -- what was read, written again, gives the words that stood there
+  pub read-writes :
+      (ws : List ℕ) (at n : ℕ) → readAt ws at ≡ ReadAnswer.Read i n → n ≤ length out →
+      writeOf i out ≡ written (WriteAnswer.Wrote n) (take n (drop at ws) ++ drop n out)
+  read-writes ws at n e room =
+      let s = stood ws at i n e in
+      let fit : length (wordsOf i) ≤ length out = rw (s .1) at room in
+      let words : take n (drop at ws) ≡ wordsOf i = ap (λ (k : ℕ). take k (drop at ws)) (s .1) ∙ s .0 .1 in
+      rw (s .0 .0, le-leb _ _ fit, words, s .1)

@@ -1,0 +1,136 @@
+-- What reading and writing answer, by the cases of their tests: each answer beside the facts that it was given for.
+use mathlib.Core.Path.{_≡_, refl, _∙_}
+use mathlib.Core.Bool.{Bool, true, false, cond, _&&_}
+use mathlib.Core.List.{List, _++_}
+use mathlib.Core.Logic.{inl, inr}
+use Prim.Native.Nat.{ℕ, _≤_, _<_, _+_, _-_}
+use native.Mathlib.Omega.{arith}
+use lib.Dec.{ltb, leb}
+use lib.ListN.{length, getD, drop}
+use borrow.Author.Tests.{leb-true, leb-false, ltb-true, ltb-false}
+use Rattle.words.specs.declared.instr.Op.{Op}
+use Rattle.words.specs.declared.instr.Instr.{Instr}
+use Rattle.words.specs.declared.table.FoundOp.{FoundOp}
+use Rattle.words.specs.declared.forms.Second.{Second}
+use Rattle.words.specs.declared.reading.ReadAnswer.{ReadAnswer}
+use Rattle.words.specs.declared.writing.WriteAnswer.{WriteAnswer}
+use Rattle.words.specs.Table.{opOf}
+use Rattle.words.specs.Forms.{limitsOf, fits, valid}
+use Rattle.words.specs.Layout.{bits, top, instrIn, spareZero, wordsOf}
+use Rattle.words.specs.Refusals.{Rule}
+use Rattle.words.specs.Rules.{Stands, Names, size, Breaks}
+use Rattle.words.specs.Reading.{refused, readAt}
+use Rattle.words.specs.Writing.{written, unwritten, writeOf}
+use Rattle.words.proofs.Lookup.{op-opcode, op-modifier}
+use Rattle.words.proofs.Rows.{table}
+use Rattle.words.proofs.Sizes.{size-positive}
+use Rattle.words.proofs.ReadSteps.{past, missing, short, whole}
+use Rattle.words.proofs.Standing.{stood, standing}
+
+module _ (ws : List ℕ) (at : ℕ) where
+  abbrev w : ℕ
+  w = getD ws at 0
+
+  found : (o : Op) → Names ws at o → opOf (top w) (bits 7 4 w) ≡ FoundOp.Carried o
+  found o h = rw (h .0, h .1) (table o .found)
+
+  names : (o : Op) → opOf (top w) (bits 7 4 w) ≡ FoundOp.Carried o → Names ws at o
+  names o e = (op-opcode (top w) (bits 7 4 w) o e, op-modifier (top w) (bits 7 4 w) o e)
+
+  -- each rule's breaking is answered by its number
+  pub not-carried : Breaks ws at Rule.carried → readAt ws at ≡ refused Rule.carried at
+  not-carried h = missing ws at (h .0) (none (opOf (top w) (bits 7 4 w)) refl)
+    where
+      none : (f : FoundOp) → opOf (top w) (bits 7 4 w) ≡ f → opOf (top w) (bits 7 4 w) ≡ FoundOp.Missing
+      none FoundOp.Missing e = e
+      none (FoundOp.Carried o) e = absurd (h .1 o (names o e))
+
+  pub second-missing : Breaks ws at Rule.second → readAt ws at ≡ refused Rule.second at
+  second-missing (inl h) = past ws at h
+  second-missing (inr h) =
+      let p : length ws - at < size (h .0) = omega (arith, h .3) in
+      short ws at (h .1) (h .0) (found (h .0) (h .2)) p
+
+  -- the answer where all words of an operation are there
+  module _ (o : Op) (h : Names ws at o) (room : at + size o ≤ length ws) where
+    abbrev s : Second
+    s = limitsOf o .second
+
+    abbrev v : ℕ
+    v = getD ws (at + 1) 0
+
+    abbrev right : Bool
+    right = spareZero s w v && fits (limitsOf o) (instrIn s o w v)
+
+    answer : readAt ws at ≡ cond right (ReadAnswer.Read (instrIn s o w v) (size o)) (refused Rule.field at)
+    answer =
+        let here : at < length ws = omega (arith, size-positive s) in
+        whole ws at here o (found o h) (limitsOf o) v refl refl (omega arith)
+
+    pub wrong-field : ((i : Instr) → Stands ws at i → ⊥) → readAt ws at ≡ refused Rule.field at
+    wrong-field none = answer ∙ by right answer
+      where
+        by :
+            (b : Bool) → readAt ws at ≡ cond b (ReadAnswer.Read (instrIn s o w v) (size o)) (refused Rule.field at) →
+            cond b (ReadAnswer.Read (instrIn s o w v) (size o)) (refused Rule.field at) ≡ refused Rule.field at
+        by true e = absurd (none (instrIn s o w v) (stood ws at (instrIn s o w v) (size o) e .0))
+        by false e = refl
+
+-- every list and place has one of these
+pub data Verdict (ws : List ℕ) (at : ℕ) : Type 0 where
+  broken : (rule : Rule) → Breaks ws at rule → readAt ws at ≡ refused rule at → Verdict ws at
+  read : (i : Instr) (n : ℕ) → readAt ws at ≡ ReadAnswer.Read i n → Verdict ws at
+
+pub verdict : (ws : List ℕ) (at : ℕ) → Verdict ws at
+verdict ws at = first (leb (length ws) at) refl
+  where
+    -- nothing stands where the answer is a refusal
+    unread : readAt ws at ≡ refused Rule.field at → (i : Instr) → Stands ws at i → ⊥
+    unread e i h =
+        let f : readAt ws at ≡ ReadAnswer.Read i (length (wordsOf i)) = standing ws at i h in
+        let z : _≡_ {A = ℕ} 0 1 = cc in absurd (omega arith)
+
+    third : (o : Op) → Names ws at o → at + size o ≤ length ws → Verdict ws at
+    third o h room = by (right ws at o h room) (answer ws at o h room)
+      where
+        by :
+            (b : Bool) →
+            readAt ws at ≡ cond b (ReadAnswer.Read (instrIn (limitsOf o .second) o (getD ws at 0) (getD ws (at + 1) 0)) (size o)) (refused Rule.field at) →
+            Verdict ws at
+        by true e = read _ _ e
+        by false e = broken Rule.field (o, h, room, unread e) e
+
+    second : at < length ws → (o : Op) → Names ws at o → (b : Bool) → ltb (length ws) (at + size o) ≡ b → Verdict ws at
+    second here o h true e =
+        let b : Breaks ws at Rule.second = inr (o, here, h, ltb-true _ _ e) in
+        broken Rule.second b (second-missing ws at b)
+    second here o h false e = third o h (ltb-false _ _ e)
+
+    looked : at < length ws → (f : FoundOp) → opOf (top (getD ws at 0)) (bits 7 4 (getD ws at 0)) ≡ f → Verdict ws at
+    looked here FoundOp.Missing e =
+        let none : (o : Op) → Names ws at o → ⊥ = λ o h. (let g = found ws at o h in let z : _≡_ {A = ℕ} 0 1 = cc in absurd (omega arith)) in
+        broken Rule.carried (here, none) (missing ws at here e)
+    looked here (FoundOp.Carried o) e = second here o (names ws at o e) (ltb (length ws) (at + size o)) refl
+
+    first : (b : Bool) → leb (length ws) at ≡ b → Verdict ws at
+    first true e = broken Rule.second (inl (leb-true _ _ e)) (past ws at (leb-true _ _ e))
+    first false e = looked (leb-false _ _ e) (opOf (top (getD ws at 0)) (bits 7 4 (getD ws at 0))) refl
+
+-- every instruction and output has one of these
+pub data Outcome (i : Instr) (out : List ℕ) : Type 0 where
+  no-words : valid i ≡ false → writeOf i out ≡ unwritten Rule.words out → Outcome i out
+  no-room : valid i ≡ true → length out < length (wordsOf i) → writeOf i out ≡ unwritten Rule.room out → Outcome i out
+  wrote :
+      valid i ≡ true → length (wordsOf i) ≤ length out →
+      writeOf i out ≡ written (WriteAnswer.Wrote (length (wordsOf i))) (wordsOf i ++ drop (length (wordsOf i)) out) → Outcome i out
+
+pub outcome : (i : Instr) (out : List ℕ) → Outcome i out
+outcome i out = tested (valid i) refl
+  where
+    fitted : valid i ≡ true → (b : Bool) → leb (length (wordsOf i)) (length out) ≡ b → Outcome i out
+    fitted ok true e = wrote ok (leb-true _ _ e) (rw (ok, e))
+    fitted ok false e = no-room ok (leb-false _ _ e) (rw (ok, e))
+
+    tested : (b : Bool) → valid i ≡ b → Outcome i out
+    tested true ok = fitted ok (leb (length (wordsOf i)) (length out)) refl
+    tested false bad = no-words bad (rw bad)

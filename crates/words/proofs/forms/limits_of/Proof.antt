@@ -1,0 +1,136 @@
+use mathlib.Core.Path.{_∙_, ap}
+use Rattle.words.specs.declared.forms.Need.{Need}
+use Rattle.words.specs.declared.forms.Second.{Second}
+use Rattle.words.specs.Forms.{form}
+use borrow.Author.Needs.{needs}
+use Rattle.words.proofs.forms.limits_of.Statement.{statement}
+use Rattle.words.proofs.forms.limits_of.Tie as tie
+
+enum-told : tie.Need-enum-told
+enum-told c = search needs
+
+form-requires : tie.Need-form-requires
+form-requires c κs = search needs
+
+enum-told-2 : tie.Need-enum-told-2
+enum-told-2 c = search needs
+
+form-requires-2 : tie.Need-form-requires-2
+form-requires-2 c κs = search needs
+
+enum-told-3 : tie.Need-enum-told-3
+enum-told-3 c = search needs
+
+form-requires-3 : tie.Need-form-requires-3
+form-requires-3 c κs = search needs
+
+enum-told-4 : tie.Need-enum-told-4
+enum-told-4 c = search needs
+
+form-requires-4 : tie.Need-form-requires-4
+form-requires-4 c κs = search needs
+
+enum-told-5 : tie.Need-enum-told-5
+enum-told-5 c = search needs
+
+form-requires-5 : tie.Need-form-requires-5
+form-requires-5 c κs = search needs
+
+enum-told-6 : tie.Need-enum-told-6
+enum-told-6 c = search needs
+
+form-requires-6 : tie.Need-form-requires-6
+form-requires-6 c κs = search needs
+
+enum-told-7 : tie.Need-enum-told-7
+enum-told-7 c = search needs
+
+form-requires-7 : tie.Need-form-requires-7
+form-requires-7 c κs = search needs
+
+enum-told-8 : tie.Need-enum-told-8
+enum-told-8 c = search needs
+
+form-requires-8 : tie.Need-form-requires-8
+form-requires-8 c κs = search needs
+
+enum-told-9 : tie.Need-enum-told-9
+enum-told-9 c = search needs
+
+form-requires-9 : tie.Need-form-requires-9
+form-requires-9 c κs = search needs
+
+enum-known-op : tie.Need-enum-known-op
+enum-known-op c = search needs
+
+need-of-requires : tie.Need-need-of-requires
+need-of-requires c κs = search needs
+
+form-requires-10 : tie.Need-form-requires-10
+form-requires-10 c κs = search needs
+
+returns : tie.Need-returns
+returns c = rw (c .before .enum-told .given .1) (c .form .ensures)
+
+returns-2 : tie.Need-returns-2
+returns-2 c = rw (c .before .enum-told2 .given .1) (c .form2 .ensures)
+
+returns-3 : tie.Need-returns-3
+returns-3 c = rw (c .before .enum-told3 .given .1) (c .form3 .ensures)
+
+returns-4 : tie.Need-returns-4
+returns-4 c = rw (c .before .enum-told4 .given .1) (c .form4 .ensures)
+
+returns-5 : tie.Need-returns-5
+returns-5 c = rw (c .before .enum-told5 .given .1) (c .form5 .ensures)
+
+returns-6 : tie.Need-returns-6
+returns-6 c = rw (c .before .enum-told6 .given .1) (c .form6 .ensures)
+
+returns-7 : tie.Need-returns-7
+returns-7 c = rw (c .before .enum-told7 .given .1) (c .form7 .ensures)
+
+returns-8 : tie.Need-returns-8
+returns-8 c = rw (c .before .enum-told8 .given .1) (c .form8 .ensures)
+
+returns-9 : tie.Need-returns-9
+returns-9 c = rw (c .before .enum-told9 .given .1) (c .form9 .ensures)
+
+returns-10 : tie.Need-returns-10
+returns-10 c = rw (c .before .before .before .op .given .1) (c .form10 .ensures ∙ ap (λ (n : Need). form 0 0 0 n Second.Nothing) (c .before .need-of .ensures))
+
+pub limits-of-spec : {M : Type 1} → statement M
+limits-of-spec =
+    tie.close
+    (tie.spec
+    enum-told
+    form-requires
+    enum-told-2
+    form-requires-2
+    enum-told-3
+    form-requires-3
+    enum-told-4
+    form-requires-4
+    enum-told-5
+    form-requires-5
+    enum-told-6
+    form-requires-6
+    enum-told-7
+    form-requires-7
+    enum-told-8
+    form-requires-8
+    enum-told-9
+    form-requires-9
+    enum-known-op
+    need-of-requires
+    form-requires-10
+    returns
+    returns-2
+    returns-3
+    returns-4
+    returns-5
+    returns-6
+    returns-7
+    returns-8
+    returns-9
+    returns-10)

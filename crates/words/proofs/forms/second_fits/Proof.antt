@@ -1,0 +1,25 @@
+use borrow.Author.Needs.{needs}
+use Rattle.words.proofs.forms.second_fits.Statement.{statement}
+use Rattle.words.proofs.forms.second_fits.Tie as tie
+
+enum-told : tie.Need-enum-told
+enum-told c = search needs
+
+enum-told-2 : tie.Need-enum-told-2
+enum-told-2 c = search needs
+
+enum-known-second : tie.Need-enum-known-second
+enum-known-second c = search needs
+
+returns : tie.Need-returns
+returns c = rw (c .before .before .before .before .enum-told .given .1)
+
+returns-2 : tie.Need-returns-2
+returns-2 c = rw (c .before .before .before .enum-told2 .given .1)
+
+returns-3 : tie.Need-returns-3
+returns-3 c = rw (c .before .before .before .before .before .second .given .1)
+
+pub second-fits-spec : {M : Type 1} → statement M
+second-fits-spec =
+    tie.close (tie.spec enum-told enum-told-2 enum-known-second returns returns-2 returns-3)

@@ -1,0 +1,104 @@
+use mathlib.Core.Path.{_≡_, sym, ap, _∙_}
+use mathlib.Core.List.{List}
+use Prim.Native.Nat.{ℕ, _<_}
+use lib.ListN.{length, getD}
+use Rattle.words.specs.declared.instr.Op.{Op}
+use Rattle.words.specs.declared.table.FoundOp.{FoundOp}
+use Rattle.words.specs.declared.forms.Limits.{Limits}
+use Rattle.words.specs.Table.{opOf}
+use Rattle.words.specs.Forms.{limitsOf, sizeOf}
+use Rattle.words.specs.Layout.{bits, top}
+use Rattle.words.proofs.ReadSteps.{past, missing, short, whole}
+use borrow.Author.Needs.{needs}
+use Rattle.words.proofs.reading.read_at.Statement.{statement}
+use Rattle.words.proofs.reading.read_at.Tie as tie
+
+-- the operation, and what is known of it once its size is
+abbrev op-at : tie.After-size-of → Op
+op-at z = z .before .before .before .found .given .0 .0
+
+abbrev words-at : tie.After-size-of → List ℕ
+words-at z = z .before .before .before .before .before .before .before .before .before .args .words .now
+
+abbrev place : tie.After-size-of → ℕ
+place z = z .before .before .before .before .before .before .before .before .before .args .at
+
+here : (z : tie.After-size-of) → place z < length (words-at z)
+here z = z .before .before .before .before .before .before .before .if1 .left
+
+named : (z : tie.After-size-of) → opOf (top (getD (words-at z) (place z) 0)) (bits 7 4 (getD (words-at z) (place z) 0)) ≡ FoundOp.Carried (op-at z)
+named z = sym (z .before .before .before .before .before .op-of .ensures) ∙ z .before .before .before .found .given .1
+
+size-is : (z : tie.After-size-of) → z .size-of .result ≡ sizeOf (limitsOf (op-at z) .second)
+size-is z = z .size-of .ensures ∙ ap (λ (l : Limits). sizeOf (l .second)) (z .before .limits-of .ensures)
+
+returns : tie.Need-returns
+returns c = sym (past _ _ (c .if1 .taken))
+
+mul-first : tie.Need-mul-first
+mul-first c = search needs
+
+shared-slice-read-first : tie.Need-shared-slice-read-first
+shared-slice-read-first c = search needs
+
+op-of-requires : tie.Need-op-of-requires
+op-of-requires c κs = search needs
+
+enum-known-found : tie.Need-enum-known-found
+enum-known-found c = search needs
+
+enum-told : tie.Need-enum-told
+enum-told c = search needs
+
+returns-2 : tie.Need-returns-2
+returns-2 c =
+    sym (missing _ _ (c .before .before .before .before .if1 .left) (sym (c .before .before .op-of .ensures) ∙ c .enum-told .given .1))
+
+limits-of-requires : tie.Need-limits-of-requires
+limits-of-requires c κs = search needs
+
+sub-if2 : tie.Need-sub-if2
+sub-if2 c = search needs
+
+size-of-requires : tie.Need-size-of-requires
+size-of-requires c κs = search needs
+
+returns-3 : tie.Need-returns-3
+returns-3 c = sym (short _ _ (here (c .before)) (op-at (c .before)) (named (c .before)) (rw (size-is (c .before)) at (c .if2 .taken)))
+
+add-word-at : tie.Need-add-word-at
+add-word-at c = search needs
+
+word-at-requires : tie.Need-word-at-requires
+word-at-requires c κs = search needs
+
+read-fields-requires : tie.Need-read-fields-requires
+read-fields-requires c κs = search needs
+
+returns-4 : tie.Need-returns-4
+returns-4 c =
+    let z = c .before .before .before in
+    c .read-fields .ensures
+    ∙ sym
+    (whole (words-at z) (place z) (here z) (op-at z) (named z) (z .before .limits-of .result) (c .before .word-at .result) (z .before .limits-of .ensures)
+    (c .before .word-at .ensures) (rw (size-is z) at (c .before .before .if2 .left)))
+
+pub read-at-spec : {M : Type 1} → statement M
+read-at-spec =
+    tie.close
+    (tie.spec
+    returns
+    mul-first
+    shared-slice-read-first
+    op-of-requires
+    enum-known-found
+    enum-told
+    returns-2
+    limits-of-requires
+    sub-if2
+    size-of-requires
+    returns-3
+    add-word-at
+    word-at-requires
+    read-fields-requires
+    returns-4)

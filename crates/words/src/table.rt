@@ -1,0 +1,246 @@
+// The table of operations: from an opcode and a modifier to the operation, and back.
+ghost use mathlib.Core.Path.{_≡_};
+ghost use Rattle.words.specs.Table.{twoCode, compareCode, oneCode, loadCode, storeCode, opcodeOf, atomicModifier, controlModifier, modifierOf, plain, atomics, controls, opOf};
+ghost use Rattle.words.specs.Named.{Named};
+use crate::instr::AtomicOp;
+use crate::instr::CompareOp;
+use crate::instr::ControlOp;
+use crate::instr::OneOp;
+use crate::instr::Op;
+use crate::instr::Space;
+use crate::instr::TwoOp;
+
+// What an opcode and a modifier name.
+pub enum FoundOp {
+    Carried(Op),
+    Missing,
+}
+
+// The operation of an opcode that has no modifiers.
+fn plain_op(opcode: u32) -> FoundOp
+    ensures { λ r. ⌜ Named opcodeOf plain opcode r ⌝ }
+{
+    match opcode {
+        0x00 => FoundOp::Carried(Op::Two(TwoOp::Add)),
+        0x01 => FoundOp::Carried(Op::Two(TwoOp::Sub)),
+        0x02 => FoundOp::Carried(Op::Two(TwoOp::Mul)),
+        0x03 => FoundOp::Carried(Op::Two(TwoOp::Div)),
+        0x04 => FoundOp::Carried(Op::Two(TwoOp::Udiv)),
+        0x05 => FoundOp::Carried(Op::Two(TwoOp::Rem)),
+        0x06 => FoundOp::Carried(Op::Two(TwoOp::Urem)),
+        0x09 => FoundOp::Carried(Op::Two(TwoOp::Min)),
+        0x0A => FoundOp::Carried(Op::Two(TwoOp::Max)),
+        0x0B => FoundOp::Carried(Op::Two(TwoOp::Mulhi)),
+        0x20 => FoundOp::Carried(Op::Two(TwoOp::And)),
+        0x21 => FoundOp::Carried(Op::Two(TwoOp::Or)),
+        0x22 => FoundOp::Carried(Op::Two(TwoOp::Xor)),
+        0x24 => FoundOp::Carried(Op::Two(TwoOp::Shl)),
+        0x25 => FoundOp::Carried(Op::Two(TwoOp::Shr)),
+        0x26 => FoundOp::Carried(Op::Two(TwoOp::Sar)),
+        0x28 => FoundOp::Carried(Op::Compare(CompareOp::Eq)),
+        0x29 => FoundOp::Carried(Op::Compare(CompareOp::Ne)),
+        0x2A => FoundOp::Carried(Op::Compare(CompareOp::Lt)),
+        0x2B => FoundOp::Carried(Op::Compare(CompareOp::Ge)),
+        0x07 => FoundOp::Carried(Op::One(OneOp::Neg)),
+        0x08 => FoundOp::Carried(Op::One(OneOp::Abs)),
+        0x23 => FoundOp::Carried(Op::One(OneOp::Not)),
+        0x27 => FoundOp::Carried(Op::One(OneOp::Popcnt)),
+        0xF0 => FoundOp::Carried(Op::One(OneOp::Mov)),
+        0xF2 => FoundOp::Carried(Op::Special),
+        0x30 => FoundOp::Carried(Op::Load(Space::Device)),
+        0x38 => FoundOp::Carried(Op::Load(Space::Local)),
+        0x31 => FoundOp::Carried(Op::Store(Space::Device)),
+        0x39 => FoundOp::Carried(Op::Store(Space::Local)),
+        0xF1 => FoundOp::Carried(Op::Number),
+        0x3D => FoundOp::Carried(Op::Cas),
+        _ => FoundOp::Missing,
+    }
+}
+
+// The operation of ATOMIC by its modifier.
+fn atomic_op(modifier: u32) -> FoundOp
+    ensures { λ r. ⌜ Named modifierOf atomics modifier r ⌝ }
+{
+    match modifier {
+        0 => FoundOp::Carried(Op::Atomic(AtomicOp::Add)),
+        1 => FoundOp::Carried(Op::Atomic(AtomicOp::Sub)),
+        2 => FoundOp::Carried(Op::Atomic(AtomicOp::And)),
+        3 => FoundOp::Carried(Op::Atomic(AtomicOp::Or)),
+        4 => FoundOp::Carried(Op::Atomic(AtomicOp::Xor)),
+        5 => FoundOp::Carried(Op::Atomic(AtomicOp::Min)),
+        6 => FoundOp::Carried(Op::Atomic(AtomicOp::Max)),
+        7 => FoundOp::Carried(Op::Atomic(AtomicOp::Umin)),
+        8 => FoundOp::Carried(Op::Atomic(AtomicOp::Umax)),
+        9 => FoundOp::Carried(Op::Atomic(AtomicOp::Xchg)),
+        _ => FoundOp::Missing,
+    }
+}
+
+// The operation of control by its modifier.
+fn control_op(modifier: u32) -> FoundOp
+    ensures { λ r. ⌜ Named modifierOf controls modifier r ⌝ }
+{
+    match modifier {
+        0 => FoundOp::Carried(Op::Control(ControlOp::If)),
+        1 => FoundOp::Carried(Op::Control(ControlOp::Else)),
+        2 => FoundOp::Carried(Op::Control(ControlOp::Endif)),
+        3 => FoundOp::Carried(Op::Control(ControlOp::Loop)),
+        4 => FoundOp::Carried(Op::Control(ControlOp::Break)),
+        5 => FoundOp::Carried(Op::Control(ControlOp::Continue)),
+        6 => FoundOp::Carried(Op::Control(ControlOp::Endloop)),
+        9 => FoundOp::Carried(Op::Control(ControlOp::Halt)),
+        10 => FoundOp::Carried(Op::Control(ControlOp::Barrier)),
+        15 => FoundOp::Carried(Op::Control(ControlOp::Nop)),
+        _ => FoundOp::Missing,
+    }
+}
+
+// The operation of an opcode and a modifier.
+pub fn op_of(opcode: u32, modifier: u32) -> FoundOp
+    ensures { λ r. ⌜ r ≡ opOf opcode modifier ⌝ }
+{
+    if opcode == 0x3C {
+        return atomic_op(modifier);
+    }
+    if opcode == 0x3F {
+        return control_op(modifier);
+    }
+    if modifier == 0 {
+        return plain_op(opcode);
+    }
+    FoundOp::Missing
+}
+
+fn two_code(op: TwoOp) -> u32
+    ensures { λ r. ⌜ r ≡ twoCode op ⌝ }
+{
+    match op {
+        TwoOp::Add => 0x00,
+        TwoOp::Sub => 0x01,
+        TwoOp::Mul => 0x02,
+        TwoOp::Div => 0x03,
+        TwoOp::Udiv => 0x04,
+        TwoOp::Rem => 0x05,
+        TwoOp::Urem => 0x06,
+        TwoOp::Min => 0x09,
+        TwoOp::Max => 0x0A,
+        TwoOp::Mulhi => 0x0B,
+        TwoOp::And => 0x20,
+        TwoOp::Or => 0x21,
+        TwoOp::Xor => 0x22,
+        TwoOp::Shl => 0x24,
+        TwoOp::Shr => 0x25,
+        TwoOp::Sar => 0x26,
+    }
+}
+
+fn compare_code(op: CompareOp) -> u32
+    ensures { λ r. ⌜ r ≡ compareCode op ⌝ }
+{
+    match op {
+        CompareOp::Eq => 0x28,
+        CompareOp::Ne => 0x29,
+        CompareOp::Lt => 0x2A,
+        CompareOp::Ge => 0x2B,
+    }
+}
+
+fn one_code(op: OneOp) -> u32
+    ensures { λ r. ⌜ r ≡ oneCode op ⌝ }
+{
+    match op {
+        OneOp::Neg => 0x07,
+        OneOp::Abs => 0x08,
+        OneOp::Not => 0x23,
+        OneOp::Popcnt => 0x27,
+        OneOp::Mov => 0xF0,
+    }
+}
+
+fn load_code(space: Space) -> u32
+    ensures { λ r. ⌜ r ≡ loadCode space ⌝ }
+{
+    match space {
+        Space::Device => 0x30,
+        Space::Local => 0x38,
+    }
+}
+
+fn store_code(space: Space) -> u32
+    ensures { λ r. ⌜ r ≡ storeCode space ⌝ }
+{
+    match space {
+        Space::Device => 0x31,
+        Space::Local => 0x39,
+    }
+}
+
+// The opcode of an operation.
+pub fn opcode_of(op: Op) -> u32
+    ensures { λ r. ⌜ r ≡ opcodeOf op ⌝ }
+{
+    match op {
+        Op::Two(o) => two_code(o),
+        Op::Compare(o) => compare_code(o),
+        Op::One(o) => one_code(o),
+        Op::Special => 0xF2,
+        Op::Load(s) => load_code(s),
+        Op::Store(s) => store_code(s),
+        Op::Number => 0xF1,
+        Op::Atomic(_) => 0x3C,
+        Op::Cas => 0x3D,
+        Op::Control(_) => 0x3F,
+    }
+}
+
+fn atomic_modifier(op: AtomicOp) -> u32
+    ensures { λ r. ⌜ r ≡ atomicModifier op ⌝ }
+{
+    match op {
+        AtomicOp::Add => 0,
+        AtomicOp::Sub => 1,
+        AtomicOp::And => 2,
+        AtomicOp::Or => 3,
+        AtomicOp::Xor => 4,
+        AtomicOp::Min => 5,
+        AtomicOp::Max => 6,
+        AtomicOp::Umin => 7,
+        AtomicOp::Umax => 8,
+        AtomicOp::Xchg => 9,
+    }
+}
+
+fn control_modifier(op: ControlOp) -> u32
+    ensures { λ r. ⌜ r ≡ controlModifier op ⌝ }
+{
+    match op {
+        ControlOp::If => 0,
+        ControlOp::Else => 1,
+        ControlOp::Endif => 2,
+        ControlOp::Loop => 3,
+        ControlOp::Break => 4,
+        ControlOp::Continue => 5,
+        ControlOp::Endloop => 6,
+        ControlOp::Halt => 9,
+        ControlOp::Barrier => 10,
+        ControlOp::Nop => 15,
+    }
+}
+
+// The modifier of an operation, 0 where none is listed.
+pub fn modifier_of(op: Op) -> u32
+    ensures { λ r. ⌜ r ≡ modifierOf op ⌝ }
+{
+    match op {
+        Op::Two(_) => 0,
+        Op::Compare(_) => 0,
+        Op::One(_) => 0,
+        Op::Special => 0,
+        Op::Load(_) => 0,
+        Op::Store(_) => 0,
+        Op::Number => 0,
+        Op::Atomic(o) => atomic_modifier(o),
+        Op::Cas => 0,
+        Op::Control(o) => control_modifier(o),
+    }
+}
