@@ -4,7 +4,6 @@ use native.Mathlib.Omega.{arith}
 use mathlib.Core.Path.{_≡_, refl, sym, ap, _∙_, subst}
 use mathlib.Core.Bool.{Bool, true, false}
 use mathlib.Core.List.{List, [], _∷_}
-use lib.ListN.{length}
 use lib.Dec.{ltb}
 use Rattle.blocks.specs.declared.rules.Inside.{Inside}
 use Rattle.blocks.specs.declared.rules.Turn.{Turn}

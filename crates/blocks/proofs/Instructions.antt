@@ -1,12 +1,13 @@
 -- What stands at a place of checked code is an instruction that reading gives, with its registers in bounds.
 use Prim.Native.Nat.{ℕ, _<_}
-use mathlib.Core.Path.{_≡_, refl, sym, ap, _∙_, subst}
+use mathlib.Core.Path.{_≡_, refl, ap, _∙_}
 use mathlib.Core.Bool.{Bool, true, false, cond}
 use mathlib.Core.List.{List}
 use lib.ListN.{length}
 use Rattle.words.specs.declared.instr.Instr.{Instr}
-use Rattle.words.specs.declared.instr.ReadAnswer.{ReadAnswer}
-use Rattle.words.specs.Words.{limitsOf, sizeOf, readAt}
+use Rattle.words.specs.declared.reading.ReadAnswer.{ReadAnswer}
+use Rattle.words.specs.Forms.{limitsOf, sizeOf}
+use Rattle.words.specs.Reading.{readAt}
 use Rattle.words.specs.Registers.{registersBelow}
 use Rattle.blocks.specs.declared.item.Item.{Item}
 use Rattle.blocks.specs.declared.structure.Checked.the-variants.{Fine}
@@ -14,7 +15,7 @@ use Rattle.blocks.specs.Item.{itemOf, seen, itemAt}
 use Rattle.blocks.specs.Code.{Code, codeOf}
 use Rattle.blocks.specs.Scan.{Open, checkOf}
 use Rattle.blocks.specs.OpenAt.{there, openAt}
-use Rattle.blocks.proofs.Widths.{Wide, read-wide, code-fits}
+use Rattle.blocks.proofs.Widths.{read-wide, code-fits}
 use Rattle.blocks.proofs.Theorems.{Allowed, allowed}
 
 -- an instruction that is read at a place, its width, and what the blocks see of it
@@ -56,14 +57,14 @@ module _ (words : List ℕ) (registers at : ℕ) where
         width = n;
         reads = e;
         below = f;
-        wide = subst (Wide at (length words)) e (read-wide words at) .0;
+        wide = read-wide words at i n e .0;
         item-is = ap (seen registers) e ∙ ap (λ (b : Bool). cond b (itemOf (i .op) n) (Item.Bad 7)) f;
       }
   below-seen i n e false f ok = absurd ok
 
   read-seen : (a : ReadAnswer) → readAt words at ≡ a → NotBad (seen registers a) → Instruction words registers at
   read-seen (ReadAnswer.Read i n) e ok = below-seen i n e (registersBelow registers i) refl ok
-  read-seen (ReadAnswer.Refused n) e ok = absurd ok
+  read-seen (ReadAnswer.Refused n p) e ok = absurd ok
 
   pub instruction-there : checkOf (codeOf words registers) ≡ Fine → (o : List Open) → openAt (codeOf words registers) at ≡ there o → at < length words
       → Instruction words registers at

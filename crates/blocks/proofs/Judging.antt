@@ -5,13 +5,13 @@ use mathlib.Core.Path.{_≡_, refl, sym, ap, _∙_, subst}
 use mathlib.Core.Bool.{Bool, true, false, cond}
 use mathlib.Core.List.{List, [], _∷_}
 use lib.ListN.{length}
-use lib.Dec.{eqb, ltb}
+use lib.Dec.{eqb}
 use borrow.Author.Tests.{lt-ltb, le-ltb, ne-eqb}
 use Rattle.blocks.specs.declared.item.Item.{Item}
 use Rattle.blocks.specs.declared.rules.Inside.{Inside}
 use Rattle.blocks.specs.declared.rules.Turn.{Turn}
 use Rattle.blocks.specs.declared.rules.Turn.the-variants.{Go, Close, Enter, Stop}
-use Rattle.blocks.specs.declared.structure.Checked.the-variants.{Fine, Refused}
+use Rattle.blocks.specs.declared.structure.Checked.the-variants.{Refused}
 use Rattle.blocks.specs.Code.{Code}
 use Rattle.blocks.specs.Scan.{nesting, Part, before, after, looping, Open, open-at, Next, over, go, stray, opens, in-loop, ended, react}
 use Rattle.blocks.specs.OpenAt.{loops}
@@ -105,6 +105,11 @@ told i at room inside l o s t e =
     subst (λ (u : Turn). Tells at room l o (react i at o) u) e
     (subst (λ (k : Inside). Tells at room l o (react i at o) (turnOf i room k l)) (s .inside-is)
     (subst (λ (b : Bool). Tells at room b o (react i at o) (turnOf i room (innermost o) b)) (s .loop-is) (judged i at room o (s .room-is))))
+
+-- the turn that was judged, of the item that was seen
+pub turned : (code : Code) (at room : ℕ) (inside : Inside) (l : Bool) {i : Item} {u : Turn} → i ≡ code .item at → u ≡ turnOf i room inside l
+    → turnOf (code .item at) room inside l ≡ u
+turned code at room inside l e f = ap (λ (j : Item). turnOf j room inside l) (sym e) ∙ sym f
 
 -- what a turn needs of the numbers, whatever blocks are open
 abbrev pub TurnOk : ℕ → ℕ → ℕ → Turn → Type 0

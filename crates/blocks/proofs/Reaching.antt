@@ -4,12 +4,10 @@ use native.Mathlib.Omega.{arith}
 use mathlib.Core.Path.{_≡_, refl, sym, ap, _∙_, subst}
 use mathlib.Core.Bool.{Bool, false}
 use mathlib.Core.List.{List, [], _∷_}
-use lib.ListN.{length}
-use Rattle.blocks.specs.declared.item.Item.{Item}
 use Rattle.blocks.specs.declared.rules.Inside.{Inside}
 use Rattle.blocks.specs.declared.rules.Turn.{Turn}
 use Rattle.blocks.specs.declared.rules.Turn.the-variants.{Go, Close, Enter, Stop}
-use Rattle.blocks.specs.declared.structure.BlockEnd.{BlockEnd}
+use Rattle.blocks.specs.declared.structure.LevelEnd.{LevelEnd}
 use Rattle.blocks.specs.declared.structure.Checked.the-variants.{Fine, Refused}
 use Rattle.blocks.specs.Code.{Code}
 use Rattle.blocks.specs.Scan.{nesting, Open, open-at, over, go, in-loop, ended, react, run, checkOf}
@@ -76,7 +74,7 @@ module _ {code : Code} {from room : ℕ} {inside : Inside} {l : Bool} {at : ℕ}
           }
 
   -- a turn that closes the block
-  pub close : u ≡ Close → LevelSays code from room inside l (BlockEnd.Closed (at + 1))
+  pub close : u ≡ Close → LevelSays code from room inside l (LevelEnd.Closed (at + 1))
   unfolding ended
   close e =
       let lt = j .in-code in
@@ -97,7 +95,7 @@ module _ {code : Code} {from room : ℕ} {inside : Inside} {l : Bool} {at : ℕ}
           (nothing-closes (code .item at) room l))
 
   -- a turn that refuses
-  pub stop : {n : ℕ} → u ≡ Stop n → LevelSays code from room inside l (BlockEnd.Refused n at)
+  pub stop : {n : ℕ} → u ≡ Stop n → LevelSays code from room inside l (LevelEnd.Refused n at)
   stop {n} e = record { within = tt; shut = λ o s. tt; same = λ o s. same o (j .along .2 o s) }
     where
       same : (o : List Open) → Reached code from o at room part l → run code from o ≡ Refused n at
@@ -115,20 +113,20 @@ module _ {code : Code} {from room : ℕ} {inside : Inside} {l : Bool} {at : ℕ}
     inner : {o : List Open} (r : Reached code from o at room part l) → Entered at room k b (r .now-open) (react (code .item at) at (r .now-open))
     inner r = told (code .item at) at room part l (r .now-open) (r .stands) (Enter k b) (j .turn ∙ e)
 
-    inner-run : {o : List Open} (r : Reached code from o at room part l) (x : BlockEnd) → LevelSays code (at + 1) (room - 1) k b x
+    inner-run : {o : List Open} (r : Reached code from o at room part l) (x : LevelEnd) → LevelSays code (at + 1) (room - 1) k b x
         → run code from o ≡ follows code (inner r .now-open) x
     inner-run r x says =
         r .same ∙ run-to code (j .fits) at (r .now-open) (go (at + 1) (inner r .now-open)) (j .in-code) (inner r .goes)
         ∙ says .same (inner r .now-open) (inner r .stands)
 
-    module _ {x : BlockEnd} (says : LevelSays code (at + 1) (room - 1) k b x) where
-      answered : {y : BlockEnd} → x ≡ y → LevelSays code (at + 1) (room - 1) k b y
+    module _ {x : LevelEnd} (says : LevelSays code (at + 1) (room - 1) k b x) where
+      answered : {y : LevelEnd} → x ≡ y → LevelSays code (at + 1) (room - 1) k b y
       answered f = subst (LevelSays code (at + 1) (room - 1) k b) f says
 
-      pub inner-ok : {next : ℕ} → x ≡ BlockEnd.Closed next → (at + 1 ≤ next) × (next ≤ code .size)
+      pub inner-ok : {next : ℕ} → x ≡ LevelEnd.Closed next → (at + 1 ≤ next) × (next ≤ code .size)
       inner-ok f = answered f .within
 
-      pub inner-on : {next : ℕ} → x ≡ BlockEnd.Closed next → Along code from room inside l next part
+      pub inner-on : {next : ℕ} → x ≡ LevelEnd.Closed next → Along code from room inside l next part
       inner-on {next} f =
           let ok : (at + 1 ≤ next) × (next ≤ code .size) = inner-ok f in
           let le : from ≤ at = j .along .0 in
@@ -138,22 +136,22 @@ module _ {code : Code} {from room : ℕ} {inside : Inside} {l : Bool} {at : ℕ}
           there r =
               record {
                 now-open = r .now-open;
-                same = inner-run r (BlockEnd.Closed next) (answered f) ∙ ap (run code next) (inner r .round);
+                same = inner-run r (LevelEnd.Closed next) (answered f) ∙ ap (run code next) (inner r .round);
                 stands = r .stands;
                 round = r .round;
                 at-end = r .at-end;
               }
 
-      pub inner-stop : {n p : ℕ} → x ≡ BlockEnd.Refused n p → LevelSays code from room inside l (BlockEnd.Refused n p)
-      inner-stop {n} {p} f = record { within = tt; shut = λ o s. tt; same = λ o s. inner-run (j .along .2 o s) (BlockEnd.Refused n p) (answered f) }
+      pub inner-stop : {n p : ℕ} → x ≡ LevelEnd.Refused n p → LevelSays code from room inside l (LevelEnd.Refused n p)
+      inner-stop {n} {p} f = record { within = tt; shut = λ o s. tt; same = λ o s. inner-run (j .along .2 o s) (LevelEnd.Refused n p) (answered f) }
 
-      pub inner-end : x ≡ BlockEnd.Ended → LevelSays code from room inside l (BlockEnd.Refused 10 at)
+      pub inner-end : x ≡ LevelEnd.Ended → LevelSays code from room inside l (LevelEnd.Refused 10 at)
       inner-end f =
-          record { within = tt; shut = λ o s. tt; same = λ o s. inner-run (j .along .2 o s) BlockEnd.Ended (answered f) ∙ inner (j .along .2 o s) .at-end }
+          record { within = tt; shut = λ o s. tt; same = λ o s. inner-run (j .along .2 o s) LevelEnd.Ended (answered f) ∙ inner (j .along .2 o s) .at-end }
 
 -- the code is at its end
 pub at-the-end : {code : Code} {from room : ℕ} {inside : Inside} {l : Bool} {at : ℕ} {part : Inside}
-    → Fits code → Along code from room inside l at part → code .size ≤ at → LevelSays code from room inside l BlockEnd.Ended
+    → Fits code → Along code from room inside l at part → code .size ≤ at → LevelSays code from room inside l LevelEnd.Ended
 at-the-end {code} {from} {room} {inside} {l} {at} {part} fits a h = record { within = tt; shut = λ o s. tt; same = λ o s. same (a .2 o s) }
   where
     same : {o : List Open} → Reached code from o at room part l → run code from o ≡ ended o
@@ -165,13 +163,13 @@ unfolding innermost in-loop
 at-top = record { inside-is = refl; room-is = refl; loop-is = refl }
 
 -- the whole code is a level
-module _ {code : Code} {r : BlockEnd} (says : LevelSays code 0 nesting Inside.Nothing false r) where
-  pub whole-closed : {at : ℕ} → r ≡ BlockEnd.Closed at → ⊥
+module _ {code : Code} {r : LevelEnd} (says : LevelSays code 0 nesting Inside.Nothing false r) where
+  pub whole-closed : {at : ℕ} → r ≡ LevelEnd.Closed at → ⊥
   whole-closed e = subst (LevelSays code 0 nesting Inside.Nothing false) e says .shut [] at-top refl
 
-  pub whole-refused : {n p : ℕ} → r ≡ BlockEnd.Refused n p → Refused n p ≡ checkOf code
+  pub whole-refused : {n p : ℕ} → r ≡ LevelEnd.Refused n p → Refused n p ≡ checkOf code
   whole-refused e = sym (subst (LevelSays code 0 nesting Inside.Nothing false) e says .same [] at-top)
 
-  pub whole-ended : r ≡ BlockEnd.Ended → Fine ≡ checkOf code
+  pub whole-ended : r ≡ LevelEnd.Ended → Fine ≡ checkOf code
   unfolding ended
   whole-ended e = sym (subst (LevelSays code 0 nesting Inside.Nothing false) e says .same [] at-top)

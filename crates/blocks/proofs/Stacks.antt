@@ -19,14 +19,16 @@ use Rattle.blocks.specs.Stacks.{Holds, Turned, numberOf, insideFrom, par
 pub holds-is : (s : Stack) (o : List Open) → Holds s o → s ≡ stackOf o
 holds-is s o h = λ i. record { depth = h .depth-is i; loops = h .loops-is i; parts = h .parts-is i; openers = h .openers-is i }
 
+-- equal stores to equal lists
 store : {xs ys : List ℕ} {i j v w : ℕ} → xs ≡ ys → i ≡ j → v ≡ w → set xs i v ≡ set ys j w
 store {xs} {ys} {i} {j} {v} {w} e f g =
     ap (λ (l : List ℕ). set l i v) e ∙ ap (λ (k : ℕ). set ys k v) f ∙ ap (λ (u : ℕ). set ys j u) g
 
-length-filled : (f : Open → ℕ) (o : List Open) → length (filled f o) ≡ nesting
+-- there is a slot for each block that may be open
+pub length-filled : (f : Open → ℕ) (o : List Open) → length (filled f o) ≡ nesting
 unfolding filled
 length-filled f [] = refl
-length-filled f (x ∷ o) = length-set (filled f o) (length o) (f x) ∙ length-filled f o
+length-filled f (b ∷ o) = length-set (filled f o) (length o) (f b) ∙ length-filled f o
 
 -- past the open blocks there is 0
 filled-past : (f : Open → ℕ) (o : List Open) (i : ℕ) → length o ≤ i → i < nesting → getD (filled f o) i 0 ≡ 0
@@ -34,6 +36,15 @@ unfolding filled
 filled-past f [] i h k = getD-replicate nesting i 0 0 k
 filled-past f (x ∷ o) i h k =
     getD-set-other (filled f o) (length o) i (f x) 0 (λ e. omega arith) ∙ filled-past f o i (omega arith) k
+
+-- the innermost block stands in the last slot that is filled, and the others below it
+pub filled-top : (f : Open → ℕ) (b : Open) (o : List Open) → length o < nesting → getD (filled f (b ∷ o)) (length o) 0 ≡ f b
+unfolding filled
+filled-top f b o h = getD-set-same (filled f o) (length o) (f b) 0 (omega (arith, length-filled f o))
+
+pub filled-under : (f : Open → ℕ) (b : Open) (o : List Open) (i : ℕ) → i < length o → getD (filled f (b ∷ o)) i 0 ≡ getD (filled f o) i 0
+unfolding filled
+filled-under f b o i h = getD-set-other (filled f o) (length o) i (f b) 0 (λ e. omega arith)
 
 -- what was put is taken away again
 filled-back : (f : Open → ℕ) (x : Open) (o : List Open) → length o < nesting → set (filled f (x ∷ o)) (length o) 0 ≡ filled f o
@@ -43,6 +54,7 @@ filled-back f x o h =
     ∙ ap (λ (u : ℕ). set (filled f o) (length o) u) (sym (filled-past f o (length o) (omega arith) h))
     ∙ set-getD (filled f o) (length o) 0
 
+-- a block is put on
 pub push : (s : Stack) (o : List Open) (k : Inside) (at n m : ℕ) → Holds s o → s .depth < nesting → n ≡ numberOf k → m ≡ one-if-loop (partOf k) (s .loops)
     → Holds (record { depth = s .depth + 1; loops = m; parts = set (s .parts) (s .depth) n; openers = set (s .openers) (s .depth) at }) (open-at (partOf k) at ∷ o)
 unfolding filled loops
@@ -55,6 +67,7 @@ push s o k at n m h lt e f =
       openers-is = store (h .openers-is) (h .depth-is) refl;
     }
 
+-- a loop is one more loop, an IF is not
 pub one-more : (k : Inside) (n m : ℕ) → n ≡ numberOf k → n ≡ 3 → m + 1 ≡ one-if-loop (partOf k) m
 one-more Inside.Nothing n m e f = absurd (omega arith)
 one-more Inside.Before n m e f = absurd (omega arith)
@@ -69,18 +82,17 @@ no-more Inside.Loop n m e f = absurd (f e)
 
 -- the innermost block's part
 read-part : (s : Stack) (k : Part) (p : ℕ) (o : List Open) → Holds s (open-at k p ∷ o) → getD (s .parts) (s .depth - 1) 0 ≡ part-number k
-unfolding filled
 read-part s k p o h =
     let d : s .depth - 1 ≡ length o = omega (arith, h .depth-is) in
-    ap (λ (l : List ℕ). getD l (s .depth - 1) 0) (h .parts-is)
-    ∙ ap (λ (i : ℕ). getD (set (filled number-of o) (length o) (part-number k)) i 0) d
-    ∙ getD-set-same (filled number-of o) (length o) (part-number k) 0 (omega (arith, length-filled number-of o, h .at-most))
+    ap (λ (l : List ℕ). getD l (s .depth - 1) 0) (h .parts-is) ∙ ap (λ (i : ℕ). getD (filled number-of (open-at k p ∷ o)) i 0) d
+    ∙ filled-top number-of (open-at k p) o (h .at-most)
 
 pub none-inside : (s : Stack) (o : List Open) → Holds s o → s .depth ≡ 0 → Inside.Nothing ≡ innermost o
 unfolding innermost
 none-inside s [] h e = refl
 none-inside s (open-at k p ∷ o) h e = absurd (omega (arith, h .depth-is))
 
+-- what the innermost block is
 inside-of-number : (k : Part) → insideFrom (part-number k) ≡ insideOf k
 inside-of-number before = refl
 inside-of-number after = refl
@@ -91,6 +103,7 @@ unfolding innermost
 some-inside s [] h ne = absurd (ne (h .depth-is))
 some-inside s (open-at k p ∷ o) h ne = ap insideFrom (read-part s k p o h) ∙ inside-of-number k
 
+-- the innermost block is taken off
 pub pop : (s : Stack) (o : List Open) (m : ℕ) → Holds s o → (s .depth ≡ 0 → ⊥) → m ≡ loops (around o)
     → Holds (record { depth = s .depth - 1; loops = m; parts = set (s .parts) (s .depth - 1) 0; openers = set (s .openers) (s .depth - 1) 0 }) (around o)
 unfolding around
@@ -111,6 +124,7 @@ unfolding around
 pop-none s [] h e = h
 pop-none s (open-at k p ∷ o) h e = absurd (omega (arith, h .depth-is))
 
+-- a loop is one loop less, an IF is not
 less-one : (k : Part) (m : ℕ) → part-number k ≡ 3 → one-if-loop k m - 1 ≡ m
 less-one before m e = absurd (omega arith)
 less-one after m e = absurd (omega arith)
@@ -137,6 +151,7 @@ part-of-inside before = refl
 part-of-inside after = refl
 part-of-inside looping = refl
 
+-- the innermost block turns to another part; where none is open, nothing turns
 pub turn-none : (s : Stack) (o n : List Open) (k : Inside) → Holds s o → Turned k o n → s .depth ≡ 0 → Holds s n
 unfolding ended
 turn-none s [] [] k h t e = h
@@ -169,6 +184,7 @@ turn s (open-at j p ∷ o) (open-at i q ∷ n) k v h t ne e =
       openers-is = h .openers-is ∙ store (ap (filled opener-of) (sym r)) l pq;
     }
 
+-- no more loops than blocks
 pub loops-le : (o : List Open) → loops o ≤ length o
 unfolding loops
 loops-le [] = omega arith
@@ -176,7 +192,7 @@ loops-le (open-at before p ∷ o) = omega (arith, loops-le o)
 loops-le (open-at after p ∷ o) = omega (arith, loops-le o)
 loops-le (open-at looping p ∷ o) = omega (arith, loops-le o)
 
--- is there a loop: by their number
+-- there is a loop exactly if their number is not 0
 pub in-loop-is : (o : List Open) → ltb 0 (loops o) ≡ in-loop o
 unfolding loops in-loop
 in-loop-is [] = refl

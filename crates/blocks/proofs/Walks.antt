@@ -9,7 +9,6 @@ use borrow.Author.Tests.{eq-eqb, ne-eqb}
 use Rattle.ground.proofs.Bools.{never}
 use Rattle.blocks.specs.declared.places.Stack.{Stack}
 use Rattle.blocks.specs.declared.places.Moved.{Moved}
-use Rattle.blocks.specs.declared.places.OpenAt.{OpenAt}
 use Rattle.blocks.specs.Code.{Code}
 use Rattle.blocks.specs.Scan.{Open, Next, over, go, step, carry}
 use Rattle.blocks.specs.OpenAt.{Found, nowhere, there, seek, walk, openAt, shown}

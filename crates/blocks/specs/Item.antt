@@ -4,8 +4,8 @@ use mathlib.Core.Bool.{cond}
 use mathlib.Core.List.{List}
 use Rattle.words.specs.declared.instr.ControlOp.{ControlOp}
 use Rattle.words.specs.declared.instr.Op.{Op}
-use Rattle.words.specs.declared.instr.ReadAnswer.{ReadAnswer}
-use Rattle.words.specs.Words.{readAt}
+use Rattle.words.specs.declared.reading.ReadAnswer.{ReadAnswer}
+use Rattle.words.specs.Reading.{readAt}
 use Rattle.words.specs.Registers.{registersBelow}
 use Rattle.blocks.specs.declared.item.Item.{Item}
 
@@ -38,7 +38,7 @@ itemOf (Op.Control o) width = controlItem o
 -- what was read, for a number of registers: refusals 4 to 6 as they are, then 7
 abbrev pub seen : ℕ → ReadAnswer → Item
 seen registers (ReadAnswer.Read instr width) = cond (registersBelow registers instr) (itemOf (instr .op) width) (Item.Bad 7)
-seen registers (ReadAnswer.Refused number) = Item.Bad number
+seen registers (ReadAnswer.Refused number place) = Item.Bad number
 
 -- what stands at a place of the code
 unfoldable pub itemAt : List ℕ → ℕ → ℕ → Item

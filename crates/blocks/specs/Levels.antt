@@ -5,7 +5,7 @@ use mathlib.Core.Bool.{Bool}
 use mathlib.Core.List.{List, [], _∷_}
 use lib.ListN.{length}
 use Rattle.blocks.specs.declared.rules.Inside.{Inside}
-use Rattle.blocks.specs.declared.structure.BlockEnd.{BlockEnd}
+use Rattle.blocks.specs.declared.structure.LevelEnd.{LevelEnd}
 use Rattle.blocks.specs.declared.structure.Checked.{Checked}
 use Rattle.blocks.specs.Code.{Code}
 use Rattle.blocks.specs.Scan.{nesting, Part, before, after, looping, Open, open-at, in-loop, ended, run}
@@ -32,25 +32,25 @@ pub record Stands (room : ℕ) (inside : Inside) (in-a-loop : Bool) (o : List Op
   pub loop-is : in-loop o ≡ in-a-loop
 
 -- what the pass with the blocks o open comes to, from the answer for their innermost
-abbrev pub follows : Code → List Open → BlockEnd → Checked
-follows code o (BlockEnd.Closed at) = run code at (around o)
-follows code o (BlockEnd.Refused number place) = Checked.Refused number place
-follows code o BlockEnd.Ended = ended o
+abbrev pub follows : Code → List Open → LevelEnd → Checked
+follows code o (LevelEnd.Closed at) = run code at (around o)
+follows code o (LevelEnd.Refused number place) = Checked.Refused number place
+follows code o LevelEnd.Ended = ended o
 
 -- a block that was closed ends in the code
-abbrev pub Within : Code → ℕ → BlockEnd → Type 0
-Within code from (BlockEnd.Closed at) = (from ≤ at) × (at ≤ code .size)
-Within code from (BlockEnd.Refused number place) = Unit {0}
-Within code from BlockEnd.Ended = Unit {0}
+abbrev pub Within : Code → ℕ → LevelEnd → Type 0
+Within code from (LevelEnd.Closed at) = (from ≤ at) × (at ≤ code .size)
+Within code from (LevelEnd.Refused number place) = Unit {0}
+Within code from LevelEnd.Ended = Unit {0}
 
 -- and is a block: where none is open there is nothing to close
-abbrev pub Shut : List Open → BlockEnd → Type 0
-Shut o (BlockEnd.Closed at) = o ≡ [] → ⊥
-Shut o (BlockEnd.Refused number place) = Unit {0}
-Shut o BlockEnd.Ended = Unit {0}
+abbrev pub Shut : List Open → LevelEnd → Type 0
+Shut o (LevelEnd.Closed at) = o ≡ [] → ⊥
+Shut o (LevelEnd.Refused number place) = Unit {0}
+Shut o LevelEnd.Ended = Unit {0}
 
 -- what `level` promises
-pub record LevelSays (code : Code) (from room : ℕ) (inside : Inside) (in-a-loop : Bool) (r : BlockEnd) : Type 0 where
+pub record LevelSays (code : Code) (from room : ℕ) (inside : Inside) (in-a-loop : Bool) (r : LevelEnd) : Type 0 where
   pub within : Within code from r
   pub shut : (o : List Open) → Stands room inside in-a-loop o → Shut o r
   pub same : (o : List Open) → Stands room inside in-a-loop o → run code from o ≡ follows code o r

@@ -1,7 +1,7 @@
 // What the blocks see of an instruction. No other part of this crate looks at a word.
 use words::instr::ControlOp;
 use words::instr::Op;
-use words::instr::ReadAnswer;
+use words::reading::ReadAnswer;
 ghost use mathlib.Core.Path.{_≡_};
 ghost use Rattle.blocks.specs.Item.{controlItem, itemOf, itemAt};
 
@@ -57,7 +57,7 @@ fn item_of(op: Op, width: usize) -> Item
 pub fn look(code: &[u32], registers: u32, at: usize) -> Item
     ensures { λ r. ⌜ r ≡ itemAt (now (code .entry)) registers at ⌝ }
 {
-    let answer = words::read(code, at);
+    let answer = words::reading::read_at(code, at);
     match answer {
         ReadAnswer::Read { instr, words } => {
             if words::registers::registers_below(instr, registers) {
@@ -67,6 +67,6 @@ pub fn look(code: &[u32], registers: u32, at: usize) -> Item
                 Item::Bad(7)
             }
         }
-        ReadAnswer::Refused { rule } => Item::Bad(rule as u32),
+        ReadAnswer::Refused { number, place: _ } => Item::Bad(number),
     }
 }

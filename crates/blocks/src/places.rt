@@ -2,8 +2,8 @@
 use crate::item;
 use crate::rules;
 use crate::rules::Inside;
-use crate::rules::NESTING;
 use crate::rules::Turn;
+use crate::structure::NESTING;
 ghost use mathlib.Core.Path.{_≡_};
 ghost use mathlib.Core.List.{List, [], _∷_};
 ghost use Prim.Native.Nat.{_≤_, _<_};
@@ -164,27 +164,27 @@ fn advance(code: &[u32], registers: u32, at: usize, s: Stack) -> Moved
     let turn = rules::judge(item, room, part, 0 < loops);
     match turn {
         Turn::Go(width, next) => {
-            let n = turned_to(s, next);
+            let after = turned_to(s, next);
             Moved {
                 on: true,
                 at: at + width,
-                stack: n,
+                stack: after,
             }
         }
         Turn::Close => {
-            let n = popped(s);
+            let after = popped(s);
             Moved {
                 on: true,
                 at: at + 1,
-                stack: n,
+                stack: after,
             }
         }
-        Turn::Enter(inner, _) => {
-            let n = pushed(s, inner, at);
+        Turn::Enter(opened, _) => {
+            let after = pushed(s, opened, at);
             Moved {
                 on: true,
                 at: at + 1,
-                stack: n,
+                stack: after,
             }
         }
         Turn::Stop(_) => Moved {
@@ -216,8 +216,8 @@ pub fn open_at(code: &[u32], registers: u32, place: usize) -> OpenAt
         let moved = advance(code, registers, at, s);
         let on = moved.on;
         if on {
-            let n = moved.stack;
-            s = n;
+            let after = moved.stack;
+            s = after;
             at = moved.at;
         } else {
             return not_found();

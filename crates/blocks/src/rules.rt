@@ -3,9 +3,6 @@ use crate::item::Item;
 ghost use mathlib.Core.Path.{_≡_};
 ghost use Rattle.blocks.specs.Rules.{opening, atElse, atEndif, atEndloop, turnOf};
 
-// The room for nesting.
-pub const NESTING: usize = 32;
-
 // What an instruction stands directly inside: no block, an IF before its ELSE, an IF after it, a loop.
 pub enum Inside {
     Nothing,

@@ -2,7 +2,6 @@
 use crate::item;
 use crate::rules;
 use crate::rules::Inside;
-use crate::rules::NESTING;
 use crate::rules::Turn;
 ghost use mathlib.Core.Path.{_≡_};
 ghost use Prim.Native.Nat.{_≤_};
@@ -11,8 +10,11 @@ ghost use Rattle.blocks.specs.Code.{codeOf};
 ghost use Rattle.blocks.specs.Scan.{checkOf};
 ghost use Rattle.blocks.specs.Levels.{LevelSays};
 
+// The room for nesting.
+pub const NESTING: usize = 32;
+
 // How a level ends: closed, with the place after its end; refused, with the rule's number and the place; or by the end of the code.
-pub enum BlockEnd {
+pub enum LevelEnd {
     Closed(usize),
     Refused(u32, usize),
     Ended,
@@ -32,7 +34,7 @@ fn level(
     room: usize,
     inside: Inside,
     in_loop: bool,
-) -> BlockEnd
+) -> LevelEnd
     requires { ⌜ from ≤ length (now code) ⌝ }
     ensures { λ r. ⌜ LevelSays (codeOf (now (code .entry)) registers) from room inside in_loop r ⌝ }
 {
@@ -47,38 +49,39 @@ fn level(
                 part = next;
             }
             Turn::Close => {
-                return BlockEnd::Closed(at + 1);
+                return LevelEnd::Closed(at + 1);
             }
             Turn::Stop(number) => {
-                return BlockEnd::Refused(number, at);
+                return LevelEnd::Refused(number, at);
             }
             Turn::Enter(inner, looped) => {
                 let end = level(code, registers, at + 1, room - 1, inner, looped);
                 match end {
-                    BlockEnd::Closed(next) => {
+                    LevelEnd::Closed(next) => {
                         at = next;
                     }
-                    BlockEnd::Refused(number, place) => {
-                        return BlockEnd::Refused(number, place);
+                    LevelEnd::Refused(number, place) => {
+                        return LevelEnd::Refused(number, place);
                     }
-                    BlockEnd::Ended => {
-                        return BlockEnd::Refused(10, at);
+                    LevelEnd::Ended => {
+                        return LevelEnd::Refused(10, at);
                     }
                 }
             }
         }
     }
-    BlockEnd::Ended
+    LevelEnd::Ended
 }
 
 // Whether code is well built for a number of registers: refusals 4 to 9 instruction by instruction, then 10; the first broken rule in reading order.
+// The whole code is a level outside every block, which nothing closes.
 pub fn check(code: &[u32], registers: u32) -> Checked
     ensures { λ r. ⌜ r ≡ checkOf (codeOf (now (code .entry)) registers) ⌝ }
 {
     let end = level(code, registers, 0, NESTING, Inside::Nothing, false);
     match end {
-        BlockEnd::Closed(_) => Checked::Fine,
-        BlockEnd::Refused(number, place) => Checked::Refused(number, place),
-        BlockEnd::Ended => Checked::Fine,
+        LevelEnd::Closed(_) => Checked::Fine,
+        LevelEnd::Refused(number, place) => Checked::Refused(number, place),
+        LevelEnd::Ended => Checked::Fine,
     }
 }

@@ -1,91 +1,68 @@
+-- Each operation in turn; a control operation is what `control_item` says.
 use borrow.Author.Needs.{needs}
 use Rattle.blocks.proofs.item.item_of.Statement.{statement}
 use Rattle.blocks.proofs.item.item_of.Tie as tie
-use Rattle.blocks.proofs.item.item_of.Reads as reads
-use Rattle.blocks.proofs.item.item_of.Lts as lts
-use Rattle.blocks.proofs.item.control_item.Reads as control-item-reads
 
--- src/item.rt:43:23
 enum-told : tie.Need-enum-told
 enum-told c = search needs
 
--- src/item.rt:44:27
 enum-told-2 : tie.Need-enum-told-2
 enum-told-2 c = search needs
 
--- src/item.rt:45:23
 enum-told-3 : tie.Need-enum-told-3
 enum-told-3 c = search needs
 
--- src/item.rt:46:24
 enum-told-4 : tie.Need-enum-told-4
 enum-told-4 c = search needs
 
--- src/item.rt:47:23
 enum-told-5 : tie.Need-enum-told-5
 enum-told-5 c = search needs
 
--- src/item.rt:48:24
 enum-told-6 : tie.Need-enum-told-6
 enum-told-6 c = search needs
 
--- src/item.rt:49:25
 enum-told-7 : tie.Need-enum-told-7
 enum-told-7 c = search needs
 
--- src/item.rt:50:26
 enum-told-8 : tie.Need-enum-told-8
 enum-told-8 c = search needs
 
--- src/item.rt:51:20
 enum-told-9 : tie.Need-enum-told-9
 enum-told-9 c = search needs
 
--- src/item.rt:52:21
 enum-known-op : tie.Need-enum-known-op
 enum-known-op c = search needs
 
--- src/item.rt:52:33
 control-item-requires : tie.Need-control-item-requires
 control-item-requires c κs = search needs
 
--- src/item.rt:39:1
 returns : tie.Need-returns
 returns c = rw (c .enum-told .given .1)
 
--- src/item.rt:39:1
 returns-2 : tie.Need-returns-2
 returns-2 c = rw (c .enum-told2 .given .1)
 
--- src/item.rt:39:1
 returns-3 : tie.Need-returns-3
 returns-3 c = rw (c .enum-told3 .given .1)
 
--- src/item.rt:39:1
 returns-4 : tie.Need-returns-4
 returns-4 c = rw (c .enum-told4 .given .1)
 
--- src/item.rt:39:1
 returns-5 : tie.Need-returns-5
 returns-5 c = rw (c .enum-told5 .given .1)
 
--- src/item.rt:39:1
 returns-6 : tie.Need-returns-6
 returns-6 c = rw (c .enum-told6 .given .1)
 
--- src/item.rt:39:1
 returns-7 : tie.Need-returns-7
 returns-7 c = rw (c .enum-told7 .given .1)
 
--- src/item.rt:39:1
 returns-8 : tie.Need-returns-8
 returns-8 c = rw (c .enum-told8 .given .1)
 
--- src/item.rt:39:1
 returns-9 : tie.Need-returns-9
 returns-9 c = rw (c .enum-told9 .given .1)
 
--- src/item.rt:39:1
 returns-10 : tie.Need-returns-10
 returns-10 c = search needs
 

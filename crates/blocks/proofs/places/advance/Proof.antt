@@ -1,111 +1,87 @@
 -- One instruction of the walk: what is known once the turn has been judged is one record, and each turn a law of `Advances`.
 use native.Mathlib.Omega.{arith}
-use mathlib.Core.Path.{refl, sym, ap, _∙_}
+use mathlib.Core.Path.{refl}
 use Prim.Native.Nat.{_-_}
 use lib.Dec.{ltb}
 use Rattle.blocks.specs.Code.{codeOf}
 use Rattle.blocks.specs.Scan.{nesting}
-use Rattle.blocks.specs.Rules.{turnOf}
 use Rattle.blocks.proofs.Widths.{code-fits}
+use Rattle.blocks.proofs.Judging.{turned}
 use Rattle.blocks.proofs.Advances.{Ready, stopped, on, on-ok, close, enter, enter-ok, stop}
 use borrow.Author.Needs.{needs}
 use Rattle.blocks.proofs.places.advance.Statement.{statement}
 use Rattle.blocks.proofs.places.advance.Tie as tie
-use Rattle.blocks.proofs.places.advance.Reads as reads
-use Rattle.blocks.proofs.places.advance.Lts as lts
-use Rattle.blocks.proofs.item.look.Reads as look-reads
-use Rattle.blocks.proofs.places.inner.Reads as inner-reads
-use Rattle.blocks.proofs.places.popped.Reads as popped-reads
-use Rattle.blocks.proofs.places.pushed.Reads as pushed-reads
-use Rattle.blocks.proofs.places.turned_to.Reads as turned-to-reads
-use Rattle.blocks.proofs.rules.judge.Reads as judge-reads
 
 -- where a turn has been judged
 ready : (j : tie.After-judge)
     → let a = j .before .before .before .before .before .args in
     Ready (codeOf (a .code .now) (a .registers)) (a .at) (a .s) (j .before .inner .result) (ltb 0 (a .s .loops)) (j .judge .result)
 ready j =
+    let a = j .before .before .before .before .before .args in
     record {
-      fits = code-fits (j .before .before .before .before .before .args .code .now) (j .before .before .before .before .before .args .registers);
+      fits = code-fits (a .code .now) (a .registers);
       in-code = j .before .before .before .if1 .left;
       inside = j .before .inner .ensures;
       looped = refl;
-      turn = ap (λ i. turnOf i (nesting - j .before .before .before .before .before .args .s .depth) (j .before .inner .result) (ltb 0 (j .before .before .before .before .before .args .s .loops))) (sym (j .before .before .look .ensures)) ∙ sym (j .judge .ensures);
+      turn = turned (codeOf (a .code .now) (a .registers)) (a .at) (nesting - a .s .depth) (j .before .inner .result) (ltb 0 (a .s .loops)) (j .before .before .look .ensures) (j .judge .ensures);
     }
 
--- src/places.rt:153:9
 returns : tie.Need-returns
 returns c = λ o h. stopped (codeOf (c .before .before .args .code .now) (c .before .before .args .registers)) _ o _ (c .if1 .taken)
 
--- src/places.rt:159:9
 look-requires : tie.Need-look-requires
 look-requires c κs = search needs
 
--- src/places.rt:160:9
 inner-requires : tie.Need-inner-requires
 inner-requires c κs = search needs
 
--- src/places.rt:163:16
 sub-room : tie.Need-sub-room
 sub-room c = search needs
 
--- src/places.rt:164:9
 judge-requires : tie.Need-judge-requires
 judge-requires c κs = search needs
 
--- src/places.rt:166:18
 enum-known-turn : tie.Need-enum-known-turn
 enum-known-turn c = search needs
 
--- src/places.rt:167:17
 turned-to-requires : tie.Need-turned-to-requires
 turned-to-requires c κs = search needs
 
--- src/places.rt:170:21
 add-t20 : tie.Need-add-t20
 add-t20 c = omega (arith, on-ok (ready (c .before .before .before .before)) (c .before .before .turn .given .1))
 
--- src/places.rt:175:17
 enum-told : tie.Need-enum-told
 enum-told c = search needs
 
--- src/places.rt:175:17
 popped-requires : tie.Need-popped-requires
 popped-requires c κs = search needs
 
--- src/places.rt:178:21
 add-t21 : tie.Need-add-t21
 add-t21 c = search needs
 
--- src/places.rt:182:21
 enum-known-turn-2 : tie.Need-enum-known-turn-2
 enum-known-turn-2 c = search needs
 
--- src/places.rt:183:17
 pushed-requires : tie.Need-pushed-requires
-pushed-requires c κs = enter-ok (ready (c .before .before .before)) (c .before .turn2 .given .1) (c .before .before .before .before .before .before .before .before .pre .0) (c .before .before .before .before .before .before .before .before .pre .1)
+pushed-requires c κs =
+    let held = c .before .before .before .before .before .before .before .before .pre in
+    enter-ok (ready (c .before .before .before)) (c .before .turn2 .given .1) (held .0) (held .1)
 
--- src/places.rt:186:21
 add-t22 : tie.Need-add-t22
 add-t22 c = search needs
 
--- src/places.rt:190:26
 enum-told-2 : tie.Need-enum-told-2
 enum-told-2 c = search needs
 
--- src/places.rt:148:1
 returns-2 : tie.Need-returns-2
 returns-2 c = on (ready (c .before .before .before .before)) (c .turned-to .result) (c .before .before .turn .given .1) (c .turned-to .ensures)
 
--- src/places.rt:148:1
 returns-3 : tie.Need-returns-3
 returns-3 c = close (ready (c .before .before .before)) (c .popped .result) (c .before .enum-told .given .1) (c .popped .ensures)
 
--- src/places.rt:148:1
 returns-4 : tie.Need-returns-4
 returns-4 c = enter (ready (c .before .before .before .before)) (c .pushed .result) (c .before .before .turn2 .given .1) (c .pushed .ensures)
 
--- src/places.rt:148:1
 returns-5 : tie.Need-returns-5
 returns-5 c = stop (ready (c .before .before)) (c .enum-told2 .given .1)
 

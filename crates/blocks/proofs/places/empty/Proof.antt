@@ -1,12 +1,10 @@
+-- The empty stack holds no blocks.
 use native.Mathlib.Omega.{arith}
 use mathlib.Core.Path.{refl}
 use Rattle.blocks.specs.OpenAt.{loops, filled}
 use Rattle.blocks.proofs.places.empty.Statement.{statement}
 use Rattle.blocks.proofs.places.empty.Tie as tie
-use Rattle.blocks.proofs.places.empty.Reads as reads
-use Rattle.blocks.proofs.places.empty.Lts as lts
 
--- src/places.rt:55:1
 returns : tie.Need-returns
 unfolding loops filled
 returns c = record { at-most = omega arith; depth-is = refl; loops-is = refl; parts-is = refl; openers-is = refl }

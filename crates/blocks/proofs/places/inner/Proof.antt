@@ -1,38 +1,29 @@
+-- The top slot's number is the innermost block's part.
 use native.Mathlib.Omega.{arith}
 use mathlib.Core.Path.{_∙_}
 use Rattle.blocks.proofs.Stacks.{none-inside, some-inside}
 use borrow.Author.Needs.{needs}
 use Rattle.blocks.proofs.places.inner.Statement.{statement}
 use Rattle.blocks.proofs.places.inner.Tie as tie
-use Rattle.blocks.proofs.places.inner.Reads as reads
-use Rattle.blocks.proofs.places.inner.Lts as lts
-use Rattle.blocks.proofs.places.inside_from.Reads as inside-from-reads
 
--- src/places.rt:72:9
 returns : tie.Need-returns
 returns c = λ o h. none-inside _ o h (c .if1 .taken)
 
--- src/places.rt:74:13
 sub-d : tie.Need-sub-d
 sub-d c = search needs
 
--- src/places.rt:76:17
 mul-n : tie.Need-mul-n
 mul-n c = search needs
 
--- src/places.rt:76:17
 element-copy-out-n : tie.Need-element-copy-out-n
 element-copy-out-n c = search needs
 
--- src/places.rt:77:9
 inside-from-requires : tie.Need-inside-from-requires
 inside-from-requires c κs = search needs
 
--- src/places.rt:77:9
 returns-2 : tie.Need-returns-2
 returns-2 c = λ o h. c .inside-from .ensures ∙ some-inside _ o h (c .before .before .before .if1 .left)
 
--- src/places.rt:67:1
 returns-3 : tie.Need-returns-3
 returns-3 c = λ o h. absurd (omega (arith, h .depth-is, h .at-most))
 

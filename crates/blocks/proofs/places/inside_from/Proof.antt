@@ -1,22 +1,17 @@
+-- Each number in turn.
 use borrow.Author.Tests.{ne-eqb}
 use Rattle.blocks.proofs.places.inside_from.Statement.{statement}
 use Rattle.blocks.proofs.places.inside_from.Tie as tie
-use Rattle.blocks.proofs.places.inside_from.Reads as reads
-use Rattle.blocks.proofs.places.inside_from.Lts as lts
 
--- src/places.rt:43:1
 returns : tie.Need-returns
 returns c = rw (c .match .keys1)
 
--- src/places.rt:43:1
 returns-2 : tie.Need-returns-2
 returns-2 c = rw (c .match .keys2)
 
--- src/places.rt:43:1
 returns-3 : tie.Need-returns-3
 returns-3 c = rw (c .match .keys3)
 
--- src/places.rt:43:1
 returns-4 : tie.Need-returns-4
 returns-4 c = simp (ne-eqb _ _ (c .match .rest .1), ne-eqb _ _ (c .match .rest .0 .1), ne-eqb _ _ (c .match .rest .0 .0 .1))
 

@@ -9,11 +9,6 @@ use Rattle.blocks.proofs.Widths.{code-fits}
 use Rattle.blocks.proofs.Walks.{Walked, further, farther, nothing, arrived, missed}
 use Rattle.blocks.proofs.places.open_at.Statement.{statement}
 use Rattle.blocks.proofs.places.open_at.Tie as tie
-use Rattle.blocks.proofs.places.open_at.Reads as reads
-use Rattle.blocks.proofs.places.open_at.Lts as lts
-use Rattle.blocks.proofs.places.advance.Reads as advance-reads
-use Rattle.blocks.proofs.places.empty.Reads as empty-reads
-use Rattle.blocks.proofs.places.not_found.Reads as not-found-reads
 
 abbrev Inv-loop : tie.InvT-loop
 Inv-loop code registers place s₀ at₀ s at = Walked (codeOf code registers) place s at
@@ -21,43 +16,39 @@ Inv-loop code registers place s₀ at₀ s at = Walked (codeOf code registers) p
 abbrev μ-loop : tie.MeasureT-loop
 μ-loop code registers place s₀ at₀ s at = place - at
 
--- src/places.rt:213:9
 empty-requires : tie.Need-empty-requires Inv-loop μ-loop
 empty-requires c κs = search needs
 
--- src/places.rt:215:5
 loop-holds : tie.Need-loop-holds Inv-loop μ-loop
 loop-holds c = record { fits = code-fits (c .before .before .args .code .now) (c .before .before .args .registers); blocks = []; holds = c .empty .ensures; same = refl }
 
--- src/places.rt:216:13
 advance-requires : tie.Need-advance-requires Inv-loop μ-loop
 advance-requires c κs = (c .before .loop .inv .blocks, c .before .loop .inv .holds)
 
--- src/places.rt:215:5
 loop-less : tie.Need-loop-less Inv-loop μ-loop
-loop-less c = omega (arith, farther (c .before .before .before .before .loop .inv) (c .before .before .advance .result) (c .before .before .before .loop-test .taken) (c .before .before .advance .ensures) (c .before .if1 .taken))
+loop-less c =
+    let a = c .before .before in
+    omega (arith, farther (a .before .before .loop .inv) (a .advance .result) (a .before .loop-test .taken) (a .advance .ensures) (c .before .if1 .taken))
 
--- src/places.rt:215:5
 loop-again : tie.Need-loop-again Inv-loop μ-loop
-loop-again c = further (c .before .before .before .before .loop .inv) (c .before .before .advance .result) (c .before .before .before .loop-test .taken) (c .before .before .advance .ensures) (c .before .if1 .taken)
+loop-again c =
+    let a = c .before .before in
+    further (a .before .before .loop .inv) (a .advance .result) (a .before .loop-test .taken) (a .advance .ensures) (c .before .if1 .taken)
 
--- src/places.rt:223:13
 not-found-requires : tie.Need-not-found-requires Inv-loop μ-loop
 not-found-requires c κs = search needs
 
--- src/places.rt:223:13
 returns : tie.Need-returns Inv-loop μ-loop
-returns c = c .not-found .ensures ∙ nothing (c .before .before .before .before .loop .inv) (c .before .before .advance .result) (c .before .before .before .loop-test .taken) (c .before .before .advance .ensures) (c .before .if1 .left)
+returns c =
+    let a = c .before .before in
+    c .not-found .ensures ∙ nothing (a .before .before .loop .inv) (a .advance .result) (a .before .loop-test .taken) (a .advance .ensures) (c .before .if1 .left)
 
--- src/places.rt:232:9
 not-found-requires-2 : tie.Need-not-found-requires-2 Inv-loop μ-loop
 not-found-requires-2 c κs = search needs
 
--- src/places.rt:210:1
 returns-2 : tie.Need-returns-2 Inv-loop μ-loop
 returns-2 c = arrived (c .before .before .loop .inv) (c .if2 .taken)
 
--- src/places.rt:210:1
 returns-3 : tie.Need-returns-3 Inv-loop μ-loop
 returns-3 c = c .not-found2 .ensures ∙ missed (c .before .before .before .loop .inv) (c .before .before .loop-test .left) (c .before .if2 .left)
 

@@ -1,14 +1,13 @@
 -- The recursive check of a level. The room left falls with each call of itself; in the loop, how far the pass has come is `Along`, and each turn is a law of `Reaching`.
 use Prim.Native.Nat.{ℕ, _-_, _<_}
 use native.Mathlib.Omega.{arith}
-use mathlib.Core.Path.{sym, ap, _∙_}
 use lib.ListN.{length}
 use borrow.Author.Needs.{needs}
 use borrow.Fn.Kinds.{In}
 use borrow.Fn.PlainCycle.{Measures, is, falls, and}
 use Rattle.blocks.specs.Code.{codeOf}
-use Rattle.blocks.specs.Rules.{turnOf}
 use Rattle.blocks.proofs.Widths.{code-fits}
+use Rattle.blocks.proofs.Judging.{turned}
 use Rattle.blocks.proofs.Reaching.{Along, Here, started, on, on-ok, close as closes, stop, enter-ok, inner-on, inner-ok, inner-stop, inner-end, at-the-end}
 use Rattle.blocks.proofs.structure.level.Reads as level
 use Rattle.blocks.proofs.structure.level.Kinds as level-kinds
@@ -48,11 +47,13 @@ module _ (t : ℕ) where
       let l = j .before .before .before .loop in
       Here (codeOf (a .code .now) (a .registers)) (a .from) (a .room) (a .inside) (a .in-loop) (l .at) (l .part) (j .judge .result)
   here j =
+      let a = j .before .before .before .before .before .args in
+      let l = j .before .before .before .loop in
       record {
-        fits = code-fits (j .before .before .before .before .before .args .code .now) (j .before .before .before .before .before .args .registers);
+        fits = code-fits (a .code .now) (a .registers);
         in-code = j .before .before .loop-test .taken;
-        along = j .before .before .before .loop .inv;
-        turn = ap (λ i. turnOf i (j .before .before .before .before .before .args .room) (j .before .before .before .loop .part) (j .before .before .before .before .before .args .in-loop)) (sym (j .before .look .ensures)) ∙ sym (j .judge .ensures);
+        along = l .inv;
+        turn = turned (codeOf (a .code .now) (a .registers)) (l .at) (a .room) (l .part) (a .in-loop) (j .before .look .ensures) (j .judge .ensures);
       }
 
   loop-holds : level-lts.Need-loop-holds (calls t) (level-at t) level.Post Inv-loop μ-loop
@@ -107,22 +108,30 @@ module _ (t : ℕ) where
   enum-known-end c = search needs
 
   loop-less-2 : level-lts.Need-loop-less-2 (calls t) (level-at t) level.Post Inv-loop μ-loop
-  loop-less-2 c = omega (arith, inner-ok (here (c .before .before .before .before .before .before .before)) (c .before .before .before .before .before .turn3 .given .1) (c .before .before .before .level .ensures) (c .before .end .given .1))
+  loop-less-2 c =
+      let k = c .before .before .before in
+      omega (arith, inner-ok (here (k .before .before .before .before)) (k .before .before .turn3 .given .1) (k .level .ensures) (c .before .end .given .1))
 
   loop-again-2 : level-lts.Need-loop-again-2 (calls t) (level-at t) level.Post Inv-loop μ-loop
-  loop-again-2 c = inner-on (here (c .before .before .before .before .before .before .before)) (c .before .before .before .before .before .turn3 .given .1) (c .before .before .before .level .ensures) (c .before .end .given .1)
+  loop-again-2 c =
+      let k = c .before .before .before in
+      inner-on (here (k .before .before .before .before)) (k .before .before .turn3 .given .1) (k .level .ensures) (c .before .end .given .1)
 
   enum-known-end-2 : level-lts.Need-enum-known-end-2 (calls t) (level-at t) level.Post Inv-loop μ-loop
   enum-known-end-2 c = search needs
 
   returns-3 : level-lts.Need-returns-3 (calls t) (level-at t) level.Post Inv-loop μ-loop
-  returns-3 c = inner-stop (here (c .before .before .before .before .before .before .before)) (c .before .before .before .before .before .turn3 .given .1) (c .before .before .before .level .ensures) (c .before .end2 .given .1)
+  returns-3 c =
+      let k = c .before .before .before in
+      inner-stop (here (k .before .before .before .before)) (k .before .before .turn3 .given .1) (k .level .ensures) (c .before .end2 .given .1)
 
   enum-told-2 : level-lts.Need-enum-told-2 (calls t) (level-at t) level.Post Inv-loop μ-loop
   enum-told-2 c = search needs
 
   returns-4 : level-lts.Need-returns-4 (calls t) (level-at t) level.Post Inv-loop μ-loop
-  returns-4 c = inner-end (here (c .before .before .before .before .before .before)) (c .before .before .before .before .turn3 .given .1) (c .before .before .level .ensures) (c .enum-told2 .given .1)
+  returns-4 c =
+      let k = c .before .before in
+      inner-end (here (k .before .before .before .before)) (k .before .before .turn3 .given .1) (k .level .ensures) (c .enum-told2 .given .1)
 
   returns-5 : level-lts.Need-returns-5 (calls t) (level-at t) level.Post Inv-loop μ-loop
   returns-5 c = at-the-end (code-fits (c .before .before .before .args .code .now) (c .before .before .before .args .registers)) (c .before .loop .inv) (c .loop-test .left)
