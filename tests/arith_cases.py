@@ -1,10 +1,15 @@
 #!/usr/bin/env python3
 """What crates/arith_cases has to print, worked out from page 01 with Python's integers: every operation on corner values.
-It shares no text with the crates. ./check compares its output with crates/arith_cases/stdout.
+It shares no text with the crates. --write stores the answers; --check fails where the stored ones differ.
 
 A line has the operation, the first operand, and after the colon the result for each second operand. A divisor of zero is
 printed as `fault`. An operation on one operand has one line, over that operand. CAS finds the first operand, expects the
 second and desires 5."""
+
+import os
+import sys
+
+STORED = os.path.join(os.path.dirname(os.path.abspath(__file__)), "..", "crates", "arith_cases", "stdout")
 
 CORNERS = [0, 1, 2, 3, 7, 31, 32, 33, 0x12345678, 0x7FFFFFFF, 0x80000000, 0x80000001, 0xDEADBEEF, 0xFFFFFFF9, 0xFFFFFFFE, 0xFFFFFFFF]
 
@@ -90,18 +95,29 @@ def result(f, a, b):
 
 
 def line(name, a, results):
-    print(f"{name} {a:08x}: {' '.join(results)}")
+    return f"{name} {a:08x}: {' '.join(results)}\n"
 
 
 def lines(operations):
-    for name, f in operations:
-        for a in CORNERS:
-            line(name, a, [result(f, a, b) for b in CORNERS])
+    return "".join(line(name, a, [result(f, a, b) for b in CORNERS]) for name, f in operations for a in CORNERS)
 
 
-lines(TWO)
-for name, f in ONE:
-    line(name, 0, [f"{f(a):08x}" for a in CORNERS])
-lines(COMPARE)
-lines(ATOMIC)
-lines(ADDRESS)
+def answers():
+    ones = "".join(line(name, 0, [f"{f(a):08x}" for a in CORNERS]) for name, f in ONE)
+    return lines(TWO) + ones + lines(COMPARE) + lines(ATOMIC) + lines(ADDRESS)
+
+
+def main():
+    if sys.argv[1:] == ["--write"]:
+        with open(STORED, "w") as file:
+            file.write(answers())
+    elif sys.argv[1:] == ["--check"]:
+        with open(STORED) as file:
+            if file.read() != answers():
+                sys.exit("crates/arith_cases/stdout is not what tests/arith_cases.py makes")
+        print("arith_cases: as stored")
+    else:
+        sys.exit(__doc__)
+
+
+main()

@@ -5,7 +5,7 @@ use Prim.Native.Nat.{ℕ, _≤_, _<_, _+_, _*_, _/_, _^_}
 use native.Mathlib.Omega.{arith}
 use borrow.Author.Needs.{needs}
 use Rattle.words.specs.declared.instr.Guard.{Guard}
-use Rattle.words.specs.Layout.{bits, top, bottom, negateBit}
+use Rattle.words.specs.Layout.{negateBit, opcodeIn, rdIn, rs1In, modifierIn, bit3In, negateIn, predIn, rs2In, rs3In, rs4In, spareIn, scopeIn}
 
 bit-small : (b : Bool) → cond b (2 ^ 2) 0 ≤ 4
 bit-small true = search needs
@@ -22,29 +22,29 @@ module _ (c rd rs1 m n p : ℕ) (rd-fits : rd < 256) (rs1-fits : rs1 < 256) (m-f
   abbrev w : ℕ
   w = joined c rd rs1 m n p
 
-  pub top-back : top w ≡ c
+  pub top-back : opcodeIn w ≡ c
   top-back = omega arith
 
-  pub rd-back : bits 23 16 w ≡ rd
+  pub rd-back : rdIn w ≡ rd
   rd-back = omega arith
 
-  pub rs1-back : bits 15 8 w ≡ rs1
+  pub rs1-back : rs1In w ≡ rs1
   rs1-back = omega arith
 
-  pub modifier-back : bits 7 4 w ≡ m
+  pub modifier-back : modifierIn w ≡ m
   modifier-back = omega arith
 
-  pub spare-back : bits 3 3 w ≡ 0
+  pub spare-back : bit3In w ≡ 0
   spare-back = omega arith
 
-  pub negate-back : bits 2 2 w ≡ n
+  pub negate-back : negateIn w ≡ n
   negate-back = omega arith
 
-  pub pred-back : bottom w ≡ p
+  pub pred-back : predIn w ≡ p
   pred-back = omega arith
 
 -- a word whose bit 3 is zero is made of its fields
-pub whole-word : (w : ℕ) → bits 3 3 w ≡ 0 → joined (top w) (bits 23 16 w) (bits 15 8 w) (bits 7 4 w) (bits 2 2 w) (bottom w) ≡ w
+pub whole-word : (w : ℕ) → bit3In w ≡ 0 → joined (opcodeIn w) (rdIn w) (rs1In w) (modifierIn w) (negateIn w) (predIn w) ≡ w
 whole-word w z =
     let a : w / 8 ≡ w / 4 / 2 = omega arith in
     let b : w / 16 ≡ w / 8 / 2 = omega arith in
@@ -58,23 +58,23 @@ abbrev pub paired : ℕ → ℕ → ℕ → ℕ
 paired rs2 rs3 scope = rs2 * 2 ^ 24 + rs3 * 2 ^ 16 + scope
 
 module _ (rs2 rs3 scope : ℕ) (rs3-fits : rs3 < 256) (scope-fits : scope < 4) where
-  pub rs2-back : top (paired rs2 rs3 scope) ≡ rs2
+  pub rs2-back : rs2In (paired rs2 rs3 scope) ≡ rs2
   rs2-back = omega arith
 
-  pub rs3-back : bits 23 16 (paired rs2 rs3 scope) ≡ rs3
+  pub rs3-back : rs3In (paired rs2 rs3 scope) ≡ rs3
   rs3-back = omega arith
 
-  pub rs4-back : bits 15 8 (paired rs2 rs3 scope) ≡ 0
+  pub rs4-back : rs4In (paired rs2 rs3 scope) ≡ 0
   rs4-back = omega arith
 
-  pub unused-back : bits 7 2 (paired rs2 rs3 scope) ≡ 0
+  pub unused-back : spareIn (paired rs2 rs3 scope) ≡ 0
   unused-back = omega arith
 
-  pub scope-back : bottom (paired rs2 rs3 scope) ≡ scope
+  pub scope-back : scopeIn (paired rs2 rs3 scope) ≡ scope
   scope-back = omega arith
 
 -- a second word whose RS4 and bits 7:2 are zero is made of its fields
-pub whole-pair : (v : ℕ) → bits 15 8 v ≡ 0 → bits 7 2 v ≡ 0 → paired (top v) (bits 23 16 v) (bottom v) ≡ v
+pub whole-pair : (v : ℕ) → rs4In v ≡ 0 → spareIn v ≡ 0 → paired (rs2In v) (rs3In v) (scopeIn v) ≡ v
 whole-pair v y z =
     let a : v / 0x100 ≡ v / 4 / 64 = omega arith in
     let b : v / 0x10000 ≡ v / 0x100 / 256 = omega arith in

@@ -5,9 +5,9 @@ use mathlib.Core.Bool.{Bool, true, false, cond, _&&_}
 use mathlib.Core.List.{List, _++_}
 use Prim.Native.Nat.{ℕ, suc, _≤_, _<_}
 use native.Mathlib.Omega.{arith}
-use lib.Dec.{eqb, leb}
+use lib.Dec.{eqb}
 use lib.ListN.{length, getD, length-append}
-use borrow.Author.Tests.{eqb-true, leb-true, le-ltb}
+use borrow.Author.Tests.{eqb-true, le-ltb}
 use Rattle.ground.proofs.Bools.{and-left, and-right}
 use Rattle.words.specs.declared.instr.Op.{Op}
 use Rattle.words.specs.declared.instr.Guard.{Guard}
@@ -16,12 +16,12 @@ use Rattle.words.specs.declared.forms.Second.{Second}
 use Rattle.words.specs.declared.reading.ReadAnswer.{ReadAnswer}
 use Rattle.words.specs.Table.{opcodeOf, modifierOf}
 use Rattle.words.specs.Forms.{limitsOf, sizeOf, secondFits, valid}
-use Rattle.words.specs.Layout.{bits, top, guardIn, firstWord, instr, instrIn, restOf, secondSpare, spareZero, wordsOf}
+use Rattle.words.specs.Layout.{guardIn, firstWord, instr, instrIn, restOf, secondSpare, spareZero, wordsOf, opcodeIn, rdIn, rs1In, modifierIn, bit3In}
 use Rattle.words.specs.Reading.{readFrom}
 use Rattle.words.proofs.Rows.{table}
 use Rattle.words.proofs.Sizes.{words-length}
 use Rattle.words.proofs.Digits.{joined, top-back, rd-back, rs1-back, modifier-back, spare-back, negate-back, pred-back, rs2-back, rs3-back, rs4-back, unused-back, scope-back}
-use Rattle.words.proofs.Validity.{SecondSmall, Fields, fields}
+use Rattle.words.proofs.Validity.{SecondSmall, Fields, fields, registers-fit}
 use Rattle.words.proofs.ReadSteps.{fields-are}
 
 abbrev bit : Bool → ℕ
@@ -49,11 +49,11 @@ same a b c d e f g = rw (a, b, c, d, e, f, g)
 
 -- the fields that word 0 of an instruction is read as
 record First (i : Instr) (w : ℕ) : Type 0 where
-  opcode : top w ≡ opcodeOf (i .op)
-  modifier : bits 7 4 w ≡ modifierOf (i .op)
-  rd : bits 23 16 w ≡ i .rd
-  rs1 : bits 15 8 w ≡ i .rs1
-  spare : bits 3 3 w ≡ 0
+  opcode : opcodeIn w ≡ opcodeOf (i .op)
+  modifier : modifierIn w ≡ modifierOf (i .op)
+  rd : rdIn w ≡ i .rd
+  rs1 : rs1In w ≡ i .rs1
+  spare : bit3In w ≡ 0
   guard : guardIn w ≡ i .guard
 
 first-back : (i : Instr) → Fields i → First i (firstWord i)
@@ -99,16 +99,10 @@ instr-back Second.Number i w after f fit small =
           (eqb-true _ 0 (and-left (eqb (i .rs3) 0) _ past-rs2)) (eqb-true _ 0 (and-right (eqb (i .rs3) 0) _ past-rs2)) refl,
     )
 instr-back (Second.Registers x y z) i w after f fit small =
-    let past-rs2 = and-right (leb (i .rs2) x) (leb (i .rs3) y && (leb (i .scope) z && eqb (i .number) 0)) fit in
-    let past-rs3 = and-right (leb (i .rs3) y) (leb (i .scope) z && eqb (i .number) 0) past-rs2 in
-    let rs3-in : i .rs3 ≤ y = leb-true (i .rs3) y (and-left (leb (i .rs3) y) _ past-rs2) in
-    let scope-in : i .scope ≤ z = leb-true (i .scope) z (and-left (leb (i .scope) z) _ past-rs3) in
-    let rs3-fits : i .rs3 < 256 = omega (arith, small .1) in
-    let scope-fits : i .scope < 4 = omega (arith, small .2) in (
-      rw (rs4-back (i .rs2) (i .rs3) (i .scope) rs3-fits scope-fits, unused-back (i .rs2) (i .rs3) (i .scope) rs3-fits scope-fits),
-      same (sym (f .guard)) (sym (f .rd)) (sym (f .rs1)) (sym (rs2-back (i .rs2) (i .rs3) (i .scope) rs3-fits scope-fits))
-          (sym (rs3-back (i .rs2) (i .rs3) (i .scope) rs3-fits scope-fits)) (sym (scope-back (i .rs2) (i .rs3) (i .scope) rs3-fits scope-fits))
-          (eqb-true _ 0 (and-right (leb (i .scope) z) _ past-rs3)),
+    let r = registers-fit x y z i fit small in (
+      rw (rs4-back (i .rs2) (i .rs3) (i .scope) (r .1) (r .2), unused-back (i .rs2) (i .rs3) (i .scope) (r .1) (r .2)),
+      same (sym (f .guard)) (sym (f .rd)) (sym (f .rs1)) (sym (rs2-back (i .rs2) (i .rs3) (i .scope) (r .1) (r .2)))
+          (sym (rs3-back (i .rs2) (i .rs3) (i .scope) (r .1) (r .2))) (sym (scope-back (i .rs2) (i .rs3) (i .scope) (r .1) (r .2))) (r .3),
     )
 
 pub read-written : (i : Instr) → valid i ≡ true → (after : List ℕ) (at : ℕ) → readFrom (wordsOf i ++ after) at ≡ ReadAnswer.Read i (length (wordsOf i))

@@ -16,7 +16,7 @@ use Rattle.words.specs.declared.forms.Second.{Second}
 use Rattle.words.specs.declared.reading.ReadAnswer.{ReadAnswer}
 use Rattle.words.specs.Table.{opcodeOf, modifierOf, opOf}
 use Rattle.words.specs.Forms.{limitsOf, sizeOf, fits, valid}
-use Rattle.words.specs.Layout.{bits, top, firstWord, instrIn, restOf, secondSpare, spareZero, wordsOf}
+use Rattle.words.specs.Layout.{firstWord, instrIn, restOf, secondSpare, spareZero, wordsOf, opcodeIn, modifierIn, bit3In, negateIn, rs4In, spareIn}
 use Rattle.words.specs.Refusals.{Rule}
 use Rattle.words.specs.Reading.{refused, readFields, readOp, readFrom}
 use Rattle.words.proofs.Lookup.{op-opcode, op-modifier}
@@ -36,19 +36,19 @@ op-kept Second.Number o w v = refl
 op-kept (Second.Registers x y z) o w v = refl
 
 -- negate in its place is bit 2
-negate-kept : (w : ℕ) (b : Bool) → eqb (bits 2 2 w) 1 ≡ b → cond b (2 ^ 2) 0 ≡ bits 2 2 w * 2 ^ 2
-negate-kept w true e = let q : bits 2 2 w ≡ 1 = eqb-true _ 1 e in omega arith
-negate-kept w false e = let q : bits 2 2 w ≡ 0 = only (bits 2 2 w) (omega arith) (eqb-false _ 1 e) in omega arith
+negate-kept : (w : ℕ) (b : Bool) → eqb (negateIn w) 1 ≡ b → cond b (2 ^ 2) 0 ≡ negateIn w * 2 ^ 2
+negate-kept w true e = let q : negateIn w ≡ 1 = eqb-true _ 1 e in omega arith
+negate-kept w false e = let q : negateIn w ≡ 0 = only (negateIn w) (omega arith) (eqb-false _ 1 e) in omega arith
   where
     only : (n : ℕ) → n < 2 → (n ≡ 1 → ⊥) → n ≡ 0
     only n h e = omega arith
 
 -- word 0 is made of the fields read from it
 first-kept :
-    (s : Second) (o : Op) (w v : ℕ) → top w ≡ opcodeOf o → bits 7 4 w ≡ modifierOf o → bits 3 3 w ≡ 0 → firstWord (instrIn s o w v) ≡ w
-first-kept Second.Nothing o w v c m z = rw (negate-kept w (eqb (bits 2 2 w) 1) refl, ← c, ← m) (whole-word w z)
-first-kept Second.Number o w v c m z = rw (negate-kept w (eqb (bits 2 2 w) 1) refl, ← c, ← m) (whole-word w z)
-first-kept (Second.Registers x y t) o w v c m z = rw (negate-kept w (eqb (bits 2 2 w) 1) refl, ← c, ← m) (whole-word w z)
+    (s : Second) (o : Op) (w v : ℕ) → opcodeIn w ≡ opcodeOf o → modifierIn w ≡ modifierOf o → bit3In w ≡ 0 → firstWord (instrIn s o w v) ≡ w
+first-kept Second.Nothing o w v c m z = rw (negate-kept w (eqb (negateIn w) 1) refl, ← c, ← m) (whole-word w z)
+first-kept Second.Number o w v c m z = rw (negate-kept w (eqb (negateIn w) 1) refl, ← c, ← m) (whole-word w z)
+first-kept (Second.Registers x y t) o w v c m z = rw (negate-kept w (eqb (negateIn w) 1) refl, ← c, ← m) (whole-word w z)
 
 -- so is word 1, and what stands after it stays
 rest-kept :
@@ -59,8 +59,8 @@ rest-kept Second.Number o w [] h z = absurd (omega arith)
 rest-kept Second.Number o w (v ∷ r) h z = refl
 rest-kept (Second.Registers x y t) o w [] h z = absurd (omega arith)
 rest-kept (Second.Registers x y t) o w (v ∷ r) h z =
-    let rs4 : bits 15 8 v ≡ 0 = eqb-true _ 0 (and-left (eqb (bits 15 8 v) 0) (eqb (bits 7 2 v) 0) z) in
-    let unused : bits 7 2 v ≡ 0 = eqb-true _ 0 (and-right (eqb (bits 15 8 v) 0) (eqb (bits 7 2 v) 0) z) in
+    let rs4 : rs4In v ≡ 0 = eqb-true _ 0 (and-left (eqb (rs4In v) 0) (eqb (spareIn v) 0) z) in
+    let unused : spareIn v ≡ 0 = eqb-true _ 0 (and-right (eqb (rs4In v) 0) (eqb (spareIn v) 0) z) in
     rw (whole-pair v rs4 unused)
 
 -- two answers that are not alike
@@ -70,7 +70,7 @@ unread i n k p e = absurd (let z : _≡_ {A = ℕ} 0 1 = cc in omega arith)
 module _ (i : Instr) (n at : ℕ) where
   -- all tests passed
   passed :
-      (o : Op) (w : ℕ) (r : List ℕ) → opOf (top w) (bits 7 4 w) ≡ FoundOp.Carried o → sizeOf (limitsOf o .second) ≤ suc (length r) →
+      (o : Op) (w : ℕ) (r : List ℕ) → opOf (opcodeIn w) (modifierIn w) ≡ FoundOp.Carried o → sizeOf (limitsOf o .second) ≤ suc (length r) →
       (spareZero (limitsOf o .second) w (getD r 0 0) && fits (limitsOf o) (instrIn (limitsOf o .second) o w (getD r 0 0))) ≡ true →
       instrIn (limitsOf o .second) o w (getD r 0 0) ≡ i → sizeOf (limitsOf o .second) ≡ n → Starts (w ∷ r) i n
   passed o w r named room t ei en =
@@ -78,9 +78,9 @@ module _ (i : Instr) (n at : ℕ) where
       let v = getD r 0 0 in
       let k = instrIn s o w v in
       let spare = and-left (spareZero s w v) (fits (limitsOf o) k) t in
-      let bit3 : bits 3 3 w ≡ 0 = eqb-true _ 0 (and-left (eqb (bits 3 3 w) 0) (secondSpare s v) spare) in
-      let first : firstWord k ≡ w = first-kept s o w v (op-opcode (top w) (bits 7 4 w) o named) (op-modifier (top w) (bits 7 4 w) o named) bit3 in
-      let rest : restOf s k ++ drop (sizeOf s) (w ∷ r) ≡ r = rest-kept s o w r room (and-right (eqb (bits 3 3 w) 0) (secondSpare s v) spare) in
+      let bit3 : bit3In w ≡ 0 = eqb-true _ 0 (and-left (eqb (bit3In w) 0) (secondSpare s v) spare) in
+      let first : firstWord k ≡ w = first-kept s o w v (op-opcode (opcodeIn w) (modifierIn w) o named) (op-modifier (opcodeIn w) (modifierIn w) o named) bit3 in
+      let rest : restOf s k ++ drop (sizeOf s) (w ∷ r) ≡ r = rest-kept s o w r room (and-right (eqb (bit3In w) 0) (secondSpare s v) spare) in
       let ok : valid k ≡ true = rw (op-kept s o w v) (and-right (spareZero s w v) (fits (limitsOf o) k) t) in
       let words : w ∷ r ≡ wordsOf k ++ drop (sizeOf s) (w ∷ r) =
       ap (λ (x : ℕ). x ∷ r) (sym first) ∙ ap (λ (q : List ℕ). firstWord k ∷ q) (sym rest)
@@ -93,10 +93,10 @@ module _ (i : Instr) (n at : ℕ) where
 
   pub read-back : (ws : List ℕ) → readFrom ws at ≡ ReadAnswer.Read i n → Starts ws i n
   read-back [] e = unread i n _ at e
-  read-back (w ∷ r) e = looked (opOf (top w) (bits 7 4 w)) refl e
+  read-back (w ∷ r) e = looked (opOf (opcodeIn w) (modifierIn w)) refl e
     where
       tested :
-          (o : Op) → opOf (top w) (bits 7 4 w) ≡ FoundOp.Carried o → sizeOf (limitsOf o .second) ≤ suc (length r) → (b : Bool) →
+          (o : Op) → opOf (opcodeIn w) (modifierIn w) ≡ FoundOp.Carried o → sizeOf (limitsOf o .second) ≤ suc (length r) → (b : Bool) →
           (spareZero (limitsOf o .second) w (getD r 0 0) && fits (limitsOf o) (instrIn (limitsOf o .second) o w (getD r 0 0))) ≡ b →
           cond b (ReadAnswer.Read (instrIn (limitsOf o .second) o w (getD r 0 0)) (sizeOf (limitsOf o .second))) (refused Rule.field at)
           ≡ ReadAnswer.Read i n → Starts (w ∷ r) i n
@@ -104,12 +104,12 @@ module _ (i : Instr) (n at : ℕ) where
       tested o named room false t e = unread i n _ at e
 
       counted :
-          (o : Op) → opOf (top w) (bits 7 4 w) ≡ FoundOp.Carried o → (b : Bool) → ltb (suc (length r)) (sizeOf (limitsOf o .second)) ≡ b →
+          (o : Op) → opOf (opcodeIn w) (modifierIn w) ≡ FoundOp.Carried o → (b : Bool) → ltb (suc (length r)) (sizeOf (limitsOf o .second)) ≡ b →
           cond b (refused Rule.second at) (readFields o (limitsOf o) w (getD r 0 0) at) ≡ ReadAnswer.Read i n → Starts (w ∷ r) i n
       counted o named true h e = unread i n _ at e
       counted o named false h e = tested o named (ltb-false _ _ h) _ refl e
 
       looked :
-          (found : FoundOp) → opOf (top w) (bits 7 4 w) ≡ found → readOp found w r at ≡ ReadAnswer.Read i n → Starts (w ∷ r) i n
+          (found : FoundOp) → opOf (opcodeIn w) (modifierIn w) ≡ found → readOp found w r at ≡ ReadAnswer.Read i n → Starts (w ∷ r) i n
       looked FoundOp.Missing h e = unread i n _ at e
       looked (FoundOp.Carried o) h e = counted o h _ refl e

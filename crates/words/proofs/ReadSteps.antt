@@ -14,7 +14,7 @@ use Rattle.words.specs.declared.forms.Limits.{Limits}
 use Rattle.words.specs.declared.reading.ReadAnswer.{ReadAnswer}
 use Rattle.words.specs.Table.{opOf}
 use Rattle.words.specs.Forms.{limitsOf, sizeOf, fits}
-use Rattle.words.specs.Layout.{bits, top, instrIn, spareZero}
+use Rattle.words.specs.Layout.{instrIn, spareZero, opcodeIn, modifierIn}
 use Rattle.words.specs.Refusals.{Rule}
 use Rattle.words.specs.Reading.{refused, readFields, readOp, readAt}
 
@@ -33,14 +33,14 @@ module _ (ws : List ℕ) (at : ℕ) where
   module _ (here : at < length ws) where
     -- some word
     pub within :
-        readAt ws at ≡ readOp (opOf (top (getD ws at 0)) (bits 7 4 (getD ws at 0))) (getD ws at 0) (drop (suc at) ws) at
+        readAt ws at ≡ readOp (opOf (opcodeIn (getD ws at 0)) (modifierIn (getD ws at 0))) (getD ws at 0) (drop (suc at) ws) at
     within = rw (drop-cons ws at 0 here)
 
     -- an operation that is not carried
-    pub missing : opOf (top (getD ws at 0)) (bits 7 4 (getD ws at 0)) ≡ FoundOp.Missing → readAt ws at ≡ refused Rule.carried at
+    pub missing : opOf (opcodeIn (getD ws at 0)) (modifierIn (getD ws at 0)) ≡ FoundOp.Missing → readAt ws at ≡ refused Rule.carried at
     missing e = within ∙ rw e
 
-    module _ (o : Op) (named : opOf (top (getD ws at 0)) (bits 7 4 (getD ws at 0)) ≡ FoundOp.Carried o) where
+    module _ (o : Op) (named : opOf (opcodeIn (getD ws at 0)) (modifierIn (getD ws at 0)) ≡ FoundOp.Carried o) where
       -- an operation that has no room for its words
       pub short : length ws - at < sizeOf (limitsOf o .second) → readAt ws at ≡ refused Rule.second at
       short h =

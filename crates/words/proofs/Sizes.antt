@@ -19,6 +19,9 @@ sizes P a b (Second.Registers x y z) = b
 pub size-positive : (s : Second) → 1 ≤ sizeOf s
 size-positive s = sizes (λ (n : ℕ). 1 ≤ n) (search needs) (search needs) s
 
+pub size-most : (s : Second) → sizeOf s ≤ 2
+size-most s = sizes (λ (n : ℕ). n ≤ 2) (search needs) (search needs) s
+
 pub size-one : (s : Second) → (sizeOf s ≡ 2 → ⊥) → sizeOf s ≡ 1
 size-one s = sizes (λ (n : ℕ). (n ≡ 2 → ⊥) → n ≡ 1) (λ h. refl) (λ h. absurd (h refl)) s
 

@@ -5,21 +5,22 @@ use mathlib.Core.Path.{_≡_, refl, sym, _∙_, ap, subst}
 use mathlib.Core.Bool.{true, cond}
 use mathlib.Core.List.{List, [], _++_}
 use mathlib.Core.Logic.{_↔_}
-use Prim.Native.Nat.{ℕ, _≤_, _<_}
+use Prim.Native.Nat.{ℕ, zero, suc, _≤_, _<_, _^_}
 use native.Mathlib.Omega.{arith}
 use lib.Dec.{leb}
-use lib.ListN.{length, take, drop}
+use lib.ListN.{length, getD, take, drop}
 use borrow.Author.Tests.{le-leb, lt-leb}
 use Rattle.ground.proofs.Bools.{never}
 use Rattle.words.specs.declared.instr.Instr.{Instr}
 use Rattle.words.specs.declared.reading.ReadAnswer.{ReadAnswer}
 use Rattle.words.specs.declared.writing.WriteAnswer.{WriteAnswer}
-use Rattle.words.specs.Forms.{valid}
+use Rattle.words.specs.Forms.{limitsOf, valid}
 use Rattle.words.specs.Layout.{wordsOf}
 use Rattle.words.specs.Refusals.{Rule, numberOf}
 use Rattle.words.specs.Rules.{Stands, Breaks}
 use Rattle.words.specs.Reading.{refused, readFrom, readAt}
 use Rattle.words.specs.Writing.{Written, written, writeOf}
+use Rattle.words.proofs.Validity.{fields, first-fits, rest-fits}
 use Rattle.words.proofs.FromInstr.{read-written}
 use Rattle.words.proofs.Standing.{stood, standing}
 use Rattle.words.proofs.Verdicts.{Verdict, verdict, not-carried, second-missing, wrong-field, Outcome, outcome}
@@ -59,6 +60,11 @@ refuses ws at rule = (λ e. forth e (verdict ws at), back rule)
     back Rule.room h = absurd h
 
 -- WRITING
+
+-- the words of a valid instruction are words: each is below 2^32
+pub words-fit : (i : Instr) → valid i ≡ true → i .number < 2 ^ 32 → (k : ℕ) → getD (wordsOf i) k 0 < 2 ^ 32
+words-fit i ok n zero = first-fits i (fields i ok)
+words-fit i ok n (suc k) = rest-fits (limitsOf (i .op) .second) i k (fields i ok .second) (fields i ok .room) n
 
 module _ (i : Instr) (out : List ℕ) where
   -- 12 exactly if no words read as this instruction

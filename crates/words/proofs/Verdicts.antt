@@ -15,10 +15,10 @@ use Rattle.words.specs.declared.forms.Second.{Second}
 use Rattle.words.specs.declared.reading.ReadAnswer.{ReadAnswer}
 use Rattle.words.specs.declared.writing.WriteAnswer.{WriteAnswer}
 use Rattle.words.specs.Table.{opOf}
-use Rattle.words.specs.Forms.{limitsOf, fits, valid}
-use Rattle.words.specs.Layout.{bits, top, instrIn, spareZero, wordsOf}
+use Rattle.words.specs.Forms.{limitsOf, size, fits, valid}
+use Rattle.words.specs.Layout.{instrIn, spareZero, wordsOf, opcodeIn, modifierIn}
 use Rattle.words.specs.Refusals.{Rule}
-use Rattle.words.specs.Rules.{Stands, Names, size, Breaks}
+use Rattle.words.specs.Rules.{Stands, Names, Breaks}
 use Rattle.words.specs.Reading.{refused, readAt}
 use Rattle.words.specs.Writing.{written, unwritten, writeOf}
 use Rattle.words.proofs.Lookup.{op-opcode, op-modifier}
@@ -27,21 +27,22 @@ use Rattle.words.proofs.Sizes.{size-positive}
 use Rattle.words.proofs.ReadSteps.{past, missing, short, whole}
 use Rattle.words.proofs.Standing.{stood, standing}
 
+-- READING, at a place; w is the word there
 module _ (ws : List ℕ) (at : ℕ) where
   abbrev w : ℕ
   w = getD ws at 0
 
-  found : (o : Op) → Names ws at o → opOf (top w) (bits 7 4 w) ≡ FoundOp.Carried o
+  found : (o : Op) → Names ws at o → opOf (opcodeIn w) (modifierIn w) ≡ FoundOp.Carried o
   found o h = rw (h .0, h .1) (table o .found)
 
-  names : (o : Op) → opOf (top w) (bits 7 4 w) ≡ FoundOp.Carried o → Names ws at o
-  names o e = (op-opcode (top w) (bits 7 4 w) o e, op-modifier (top w) (bits 7 4 w) o e)
+  names : (o : Op) → opOf (opcodeIn w) (modifierIn w) ≡ FoundOp.Carried o → Names ws at o
+  names o e = (op-opcode (opcodeIn w) (modifierIn w) o e, op-modifier (opcodeIn w) (modifierIn w) o e)
 
   -- each rule's breaking is answered by its number
   pub not-carried : Breaks ws at Rule.carried → readAt ws at ≡ refused Rule.carried at
-  not-carried h = missing ws at (h .0) (none (opOf (top w) (bits 7 4 w)) refl)
+  not-carried h = missing ws at (h .0) (none (opOf (opcodeIn w) (modifierIn w)) refl)
     where
-      none : (f : FoundOp) → opOf (top w) (bits 7 4 w) ≡ f → opOf (top w) (bits 7 4 w) ≡ FoundOp.Missing
+      none : (f : FoundOp) → opOf (opcodeIn w) (modifierIn w) ≡ f → opOf (opcodeIn w) (modifierIn w) ≡ FoundOp.Missing
       none FoundOp.Missing e = e
       none (FoundOp.Carried o) e = absurd (h .1 o (names o e))
 
@@ -106,7 +107,7 @@ verdict ws at = first (leb (length ws) at) refl
         broken Rule.second b (second-missing ws at b)
     second here o h false e = third o h (ltb-false _ _ e)
 
-    looked : at < length ws → (f : FoundOp) → opOf (top (getD ws at 0)) (bits 7 4 (getD ws at 0)) ≡ f → Verdict ws at
+    looked : at < length ws → (f : FoundOp) → opOf (opcodeIn (getD ws at 0)) (modifierIn (getD ws at 0)) ≡ f → Verdict ws at
     looked here FoundOp.Missing e =
         let none : (o : Op) → Names ws at o → ⊥ = λ o h. (let g = found ws at o h in let z : _≡_ {A = ℕ} 0 1 = cc in absurd (omega arith)) in
         broken Rule.carried (here, none) (missing ws at here e)
@@ -114,7 +115,9 @@ verdict ws at = first (leb (length ws) at) refl
 
     first : (b : Bool) → leb (length ws) at ≡ b → Verdict ws at
     first true e = broken Rule.second (inl (leb-true _ _ e)) (past ws at (leb-true _ _ e))
-    first false e = looked (leb-false _ _ e) (opOf (top (getD ws at 0)) (bits 7 4 (getD ws at 0))) refl
+    first false e = looked (leb-false _ _ e) (opOf (opcodeIn (getD ws at 0)) (modifierIn (getD ws at 0))) refl
+
+-- WRITING
 
 -- every instruction and output has one of these
 pub data Outcome (i : Instr) (out : List ℕ) : Type 0 where

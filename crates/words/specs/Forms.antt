@@ -48,11 +48,15 @@ limitsOf (Op.Atomic o) = form 0 anyRegister anyRegister Need.Any (Second.Registe
 limitsOf Op.Cas = form 0 anyRegister anyRegister Need.Any (Second.Registers anyRegister anyRegister anyScope)
 limitsOf (Op.Control o) = form 0 0 0 (needOf o) Second.Nothing
 
--- one word or two
+-- one word or two, by what the second is
 abbrev pub sizeOf : Second → ℕ
 sizeOf Second.Nothing = 1
 sizeOf Second.Number = 2
 sizeOf (Second.Registers rs2 rs3 scope) = 2
+
+-- how many words an operation has
+abbrev pub size : Op → ℕ
+size o = sizeOf (limitsOf o .second)
 
 -- the predicate is one that is needed
 abbrev pub needMet : Need → ℕ → Bool

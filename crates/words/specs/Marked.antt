@@ -11,6 +11,7 @@ use Rattle.words.specs.Layout.{instr}
 use Rattle.words.specs.Refusals.{Rule}
 use Rattle.words.specs.Reading.{refused}
 
+-- words, and the answer to reading them
 pub record WordCase : Type 0 where
   pub words : List ℕ
   pub answer : ReadAnswer

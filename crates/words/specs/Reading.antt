@@ -9,8 +9,8 @@ use Rattle.words.specs.declared.forms.Limits.{Limits}
 use Rattle.words.specs.declared.table.FoundOp.{FoundOp}
 use Rattle.words.specs.declared.reading.ReadAnswer.{ReadAnswer}
 use Rattle.words.specs.Table.{opOf}
-use Rattle.words.specs.Forms.{limitsOf, sizeOf, fits}
-use Rattle.words.specs.Layout.{bits, top, instrIn, spareZero}
+use Rattle.words.specs.Forms.{limitsOf, sizeOf, size, fits}
+use Rattle.words.specs.Layout.{instrIn, spareZero, opcodeIn, modifierIn}
 use Rattle.words.specs.Refusals.{Rule, numberOf}
 
 -- a rule is broken by the instruction at a place
@@ -27,12 +27,12 @@ readFields o l w v at =
 abbrev pub readOp : FoundOp → ℕ → List ℕ → ℕ → ReadAnswer
 readOp FoundOp.Missing w ws at = refused Rule.carried at
 readOp (FoundOp.Carried o) w ws at =
-    cond (ltb (suc (length ws)) (sizeOf (limitsOf o .second))) (refused Rule.second at) (readFields o (limitsOf o) w (getD ws 0 0) at)
+    cond (ltb (suc (length ws)) (size o)) (refused Rule.second at) (readFields o (limitsOf o) w (getD ws 0 0) at)
 
 -- the instruction that a list of words starts with
 abbrev pub readFrom : List ℕ → ℕ → ReadAnswer
 readFrom [] at = refused Rule.second at
-readFrom (w ∷ ws) at = readOp (opOf (top w) (bits 7 4 w)) w ws at
+readFrom (w ∷ ws) at = readOp (opOf (opcodeIn w) (modifierIn w)) w ws at
 
 -- the instruction whose first word stands at a place
 abbrev pub readAt : List ℕ → ℕ → ReadAnswer

@@ -13,6 +13,7 @@ pub data Rule : Type 0 where
   -- output shorter than the result
   room : Rule
 
+-- the number of a rule
 abbrev pub numberOf : Rule → ℕ
 numberOf Rule.carried = 4
 numberOf Rule.second = 5

@@ -15,6 +15,7 @@ pub record Written : Type 0 where
   pub answer : WriteAnswer
   pub after : List ℕ
 
+-- the two together
 abbrev pub written : WriteAnswer → List ℕ → Written
 written answer after = record { answer = answer; after = after }
 

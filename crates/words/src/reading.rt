@@ -1,7 +1,7 @@
 // Reading one instruction from its words.
 ghost use mathlib.Core.Path.{_≡_};
 ghost use lib.ListN.{getD};
-ghost use Rattle.words.specs.Layout.{guardIn, instrIn, secondSpare, spareZero};
+ghost use Rattle.words.specs.Layout.{guardIn, headed, instrIn, secondSpare, spareZero};
 ghost use Rattle.words.specs.Reading.{readFields, readAt};
 use crate::forms::Limits;
 use crate::forms::Second;
@@ -44,44 +44,35 @@ fn guard_in(first: u32) -> Guard
     }
 }
 
-// The instruction that an operation's words say; `word` counts only where there is a second word.
+// The instruction of word 0, with the fields of word 1.
+fn headed(op: Op, first: u32, rs2: u8, rs3: u8, scope: u8, number: u32) -> Instr
+    ensures { λ r. ⌜ r ≡ headed op first rs2 rs3 scope number ⌝ }
+{
+    Instr {
+        op: op,
+        guard: guard_in(first),
+        rd: (first / 0x10000 % 256) as u8,
+        rs1: (first / 0x100 % 256) as u8,
+        rs2: rs2,
+        rs3: rs3,
+        scope: scope,
+        number: number,
+    }
+}
+
+// The instruction of both words; `word` counts only where there is a second word.
 pub(crate) fn instr_in(second: Second, op: Op, first: u32, word: u32) -> Instr
     ensures { λ r. ⌜ r ≡ instrIn second op first word ⌝ }
 {
-    let guard = guard_in(first);
-    let rd = (first / 0x10000 % 256) as u8;
-    let rs1 = (first / 0x100 % 256) as u8;
     match second {
-        Second::Nothing => Instr {
-            op: op,
-            guard: guard,
-            rd: rd,
-            rs1: rs1,
-            rs2: 0,
-            rs3: 0,
-            scope: 0,
-            number: 0,
-        },
-        Second::Number => Instr {
-            op: op,
-            guard: guard,
-            rd: rd,
-            rs1: rs1,
-            rs2: 0,
-            rs3: 0,
-            scope: 0,
-            number: word,
-        },
-        Second::Registers(_, _, _) => Instr {
-            op: op,
-            guard: guard,
-            rd: rd,
-            rs1: rs1,
-            rs2: (word / 0x1000000) as u8,
-            rs3: (word / 0x10000 % 256) as u8,
-            scope: (word % 4) as u8,
-            number: 0,
-        },
+        Second::Nothing => headed(op, first, 0, 0, 0, 0),
+        Second::Number => headed(op, first, 0, 0, 0, word),
+        Second::Registers(_, _, _) => {
+            let rs2 = (word / 0x1000000) as u8;
+            let rs3 = (word / 0x10000 % 256) as u8;
+            let scope = (word % 4) as u8;
+            headed(op, first, rs2, rs3, scope, 0)
+        }
     }
 }
 

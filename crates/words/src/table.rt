@@ -111,6 +111,7 @@ pub fn op_of(opcode: u32, modifier: u32) -> FoundOp
     FoundOp::Missing
 }
 
+// The opcodes of two words, RS2.
 fn two_code(op: TwoOp) -> u32
     ensures { λ r. ⌜ r ≡ twoCode op ⌝ }
 {
@@ -134,6 +135,7 @@ fn two_code(op: TwoOp) -> u32
     }
 }
 
+// The opcodes of the comparisons.
 fn compare_code(op: CompareOp) -> u32
     ensures { λ r. ⌜ r ≡ compareCode op ⌝ }
 {
@@ -145,6 +147,7 @@ fn compare_code(op: CompareOp) -> u32
     }
 }
 
+// The opcodes of one word.
 fn one_code(op: OneOp) -> u32
     ensures { λ r. ⌜ r ≡ oneCode op ⌝ }
 {
@@ -157,6 +160,7 @@ fn one_code(op: OneOp) -> u32
     }
 }
 
+// The opcodes of LOAD and LOCAL_LOAD.
 fn load_code(space: Space) -> u32
     ensures { λ r. ⌜ r ≡ loadCode space ⌝ }
 {
@@ -166,6 +170,7 @@ fn load_code(space: Space) -> u32
     }
 }
 
+// The opcodes of STORE and LOCAL_STORE.
 fn store_code(space: Space) -> u32
     ensures { λ r. ⌜ r ≡ storeCode space ⌝ }
 {
@@ -193,6 +198,7 @@ pub fn opcode_of(op: Op) -> u32
     }
 }
 
+// The modifiers of ATOMIC.
 fn atomic_modifier(op: AtomicOp) -> u32
     ensures { λ r. ⌜ r ≡ atomicModifier op ⌝ }
 {
@@ -210,6 +216,7 @@ fn atomic_modifier(op: AtomicOp) -> u32
     }
 }
 
+// The modifiers of control.
 fn control_modifier(op: ControlOp) -> u32
     ensures { λ r. ⌜ r ≡ controlModifier op ⌝ }
 {

@@ -1,3 +1,4 @@
+-- Every field keeps to its limits: the tests are `fits` term by term, with the two callees' answers put in.
 use borrow.Author.Needs.{needs}
 use Rattle.words.proofs.forms.fits.Statement.{statement}
 use Rattle.words.proofs.forms.fits.Tie as tie

@@ -1,3 +1,4 @@
+-- The guard's test is `guardFits` term by term, with the need's answer put in.
 use borrow.Author.Needs.{needs}
 use Rattle.words.proofs.forms.guard_fits.Statement.{statement}
 use Rattle.words.proofs.forms.guard_fits.Tie as tie

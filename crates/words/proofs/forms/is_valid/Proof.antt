@@ -1,3 +1,4 @@
+-- An instruction is valid if it fits the limits of its operation, which `limits_of` answers.
 use mathlib.Core.Path.{_∙_, ap}
 use Rattle.words.specs.declared.forms.Limits.{Limits}
 use Rattle.words.specs.Forms.{fits}

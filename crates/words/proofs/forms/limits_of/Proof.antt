@@ -1,3 +1,4 @@
+-- The limits of an operation, arm by arm: each is the line of `limitsOf` for its form.
 use mathlib.Core.Path.{_∙_, ap}
 use Rattle.words.specs.declared.forms.Need.{Need}
 use Rattle.words.specs.declared.forms.Second.{Second}

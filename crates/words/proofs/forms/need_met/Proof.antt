@@ -1,3 +1,4 @@
+-- The need of a predicate, arm by arm.
 use borrow.Author.Needs.{needs}
 use Rattle.words.proofs.forms.need_met.Statement.{statement}
 use Rattle.words.proofs.forms.need_met.Tie as tie

@@ -1,3 +1,4 @@
+-- The limits of word 1, arm by arm: one for each of its three forms.
 use borrow.Author.Needs.{needs}
 use Rattle.words.proofs.forms.second_fits.Statement.{statement}
 use Rattle.words.proofs.forms.second_fits.Tie as tie

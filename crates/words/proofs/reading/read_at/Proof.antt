@@ -1,3 +1,4 @@
+-- Reading at a place: each of the four answers is that of `readAt` by the steps of ReadSteps, from what the tests before it told.
 use mathlib.Core.Path.{_≡_, sym, ap, _∙_}
 use mathlib.Core.List.{List}
 use Prim.Native.Nat.{ℕ, _<_}
@@ -7,7 +8,7 @@ use Rattle.words.specs.declared.table.FoundOp.{FoundOp}
 use Rattle.words.specs.declared.forms.Limits.{Limits}
 use Rattle.words.specs.Table.{opOf}
 use Rattle.words.specs.Forms.{limitsOf, sizeOf}
-use Rattle.words.specs.Layout.{bits, top}
+use Rattle.words.specs.Layout.{opcodeIn, modifierIn}
 use Rattle.words.proofs.ReadSteps.{past, missing, short, whole}
 use borrow.Author.Needs.{needs}
 use Rattle.words.proofs.reading.read_at.Statement.{statement}
@@ -26,7 +27,7 @@ place z = z .before .before .before .before .before .before .before .before .bef
 here : (z : tie.After-size-of) → place z < length (words-at z)
 here z = z .before .before .before .before .before .before .before .if1 .left
 
-named : (z : tie.After-size-of) → opOf (top (getD (words-at z) (place z) 0)) (bits 7 4 (getD (words-at z) (place z) 0)) ≡ FoundOp.Carried (op-at z)
+named : (z : tie.After-size-of) → opOf (opcodeIn (getD (words-at z) (place z) 0)) (modifierIn (getD (words-at z) (place z) 0)) ≡ FoundOp.Carried (op-at z)
 named z = sym (z .before .before .before .before .before .op-of .ensures) ∙ z .before .before .before .found .given .1
 
 size-is : (z : tie.After-size-of) → z .size-of .result ≡ sizeOf (limitsOf (op-at z) .second)

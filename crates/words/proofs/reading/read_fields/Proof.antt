@@ -1,3 +1,4 @@
+-- The test of the fields: both answers are `readFields` by one law, from the parts that the callees answered.
 use mathlib.Core.Path.{_≡_}
 use mathlib.Core.Bool.{Bool, cond, _&&_}
 use Rattle.words.specs.declared.reading.ReadAnswer.{ReadAnswer}

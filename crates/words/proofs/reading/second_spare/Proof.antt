@@ -1,3 +1,4 @@
+-- The spare bits of word 1, arm by arm: one for each of its three forms.
 use borrow.Author.Needs.{needs}
 use Rattle.words.proofs.reading.second_spare.Statement.{statement}
 use Rattle.words.proofs.reading.second_spare.Tie as tie

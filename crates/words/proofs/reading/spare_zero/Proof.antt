@@ -1,3 +1,4 @@
+-- The spare bits of both words are those of `spareZero`, with the answer for word 1 put in.
 use borrow.Author.Needs.{needs}
 use Rattle.words.proofs.reading.spare_zero.Statement.{statement}
 use Rattle.words.proofs.reading.spare_zero.Tie as tie

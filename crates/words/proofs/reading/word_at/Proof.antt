@@ -1,3 +1,4 @@
+-- The word at a place, or 0: past the end a list's element is the default.
 use mathlib.Core.Path.{sym}
 use lib.ListN.{List·getD-eq-default}
 use borrow.Author.Needs.{needs}

@@ -1,3 +1,4 @@
+-- Every register is below R: the four tests are `allBelow` of the registers that `registers_of` answers.
 use mathlib.Core.Path.{ap}
 use Rattle.words.specs.declared.registers.Registers.{Registers}
 use Rattle.words.specs.Registers.{allBelow}

@@ -1,3 +1,4 @@
+-- Which fields are registers, arm by arm: each is the line of `registersOf`.
 use borrow.Author.Needs.{needs}
 use Rattle.words.proofs.registers.registers_of.Statement.{statement}
 use Rattle.words.proofs.registers.registers_of.Tie as tie

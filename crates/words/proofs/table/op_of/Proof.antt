@@ -1,3 +1,4 @@
+-- The operation of an opcode and a modifier: each search of the code by one number is the search by both (Lookup).
 use mathlib.Core.Path.{sym, _∙_}
 use Rattle.words.specs.Table.{opcodeOf, modifierOf, plain, atomics, controls}
 use Rattle.words.proofs.Lookup.{named-find, by-opcode, not-listed}

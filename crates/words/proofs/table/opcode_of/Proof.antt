@@ -1,3 +1,4 @@
+-- The opcode of an operation, arm by arm.
 use borrow.Author.Needs.{needs}
 use Rattle.words.proofs.table.opcode_of.Statement.{statement}
 use Rattle.words.proofs.table.opcode_of.Tie as tie

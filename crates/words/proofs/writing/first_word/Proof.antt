@@ -1,3 +1,4 @@
+-- Word 0 does not wrap: no opcode is 255, so the fields below it have room, whatever they are.
 use Prim.Native.Nat.{_<_, _≤_}
 use native.Mathlib.Omega.{arith}
 use Rattle.words.proofs.Rows.{table}

@@ -1,3 +1,4 @@
+-- Word 1, arm by arm: one for each of its three forms.
 use borrow.Author.Needs.{needs}
 use Rattle.words.proofs.writing.second_word.Statement.{statement}
 use Rattle.words.proofs.writing.second_word.Tie as tie

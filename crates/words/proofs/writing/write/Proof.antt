@@ -1,3 +1,4 @@
+-- Writing: each of the four answers, with its output, is that of `writeOf` by the steps of WriteSteps, from what the tests before it told.
 use mathlib.Core.Path.{_≡_, sym, ap, _∙_}
 use mathlib.Core.Bool.{true}
 use mathlib.Core.List.{List}
