@@ -1,21 +1,25 @@
--- The test on whole sets says of every lane what fitting sets are: it is true exactly where they fit.
+-- The test of a handed-in state is true exactly if the state fits. Its sets: what is tested of whole sets holds at every lane.
 use mathlib.Core.Path.{_≡_, refl, sym, ap, _∙_}
 use mathlib.Core.Bool.{Bool, true, false, _&&_, _||_}
 use mathlib.Core.Logic.{_↔_}
 use mathlib.Core.List.{List, [], _∷_}
 use Prim.Native.Nat.{ℕ, _+_, _≤_, max}
 use native.Mathlib.Omega.{arith}
-use borrow.Author.Tests.{eqb-true, eq-eqb}
+use borrow.Author.Tests.{eqb-true, eq-eqb, leb-true, le-leb}
 use lib.Bits.{bitAnd, bitOr}
-use lib.Dec.{eqb}
+use lib.Dec.{eqb, leb}
 use Rattle.ground.proofs.Bools.{never, and-left, and-right, and-both}
-use Rattle.lanes.specs.Sets.{bit, first}
+use Rattle.lanes.specs.Sets.{bit, first, widest}
 use Rattle.lanes.proofs.Bits.{bit-le, bit-zero, bit-or, set-ext, apart-sum, sum-apart, within-le, le-within}
+use Rattle.blocks.specs.Code.{codeOf}
+use Rattle.blocks.specs.Scan.{nesting, Open}
+use Rattle.blocks.specs.OpenAt.{Found, nowhere, there, openAt, number-of, opener-of}
 use Rattle.wave.specs.declared.state.Block.{Block}
-use Rattle.wave.specs.Wave.{Wave, Preds}
+use Rattle.wave.specs.declared.state.Hot.{Hot}
+use Rattle.wave.specs.Wave.{Wave, Preds, waveOf, predsOf}
 use Rattle.wave.specs.Rules.{isLoop}
-use Rattle.wave.specs.Fits.{SetsFit}
-use Rattle.wave.specs.FitsTest.{apart, joins, within, withAside, blockTest, pathTest, setsTest}
+use Rattle.wave.specs.Fits.{SetsFit, Same, OpenThere, Fits}
+use Rattle.wave.specs.FitsTest.{apart, joins, within, withAside, blockTest, pathTest, setsTest, agree, placeTest, fitsTest}
 use Rattle.wave.proofs.AtLane.{FitsAt, FitsLanes, PredsFit, at, fits-lanes, lanes-fit}
 
 -- ---- each test by itself
@@ -138,3 +142,64 @@ module _ (n : ℕ) (w : Wave) (ps : Preds) where
 
   pub sets-test : (setsTest (first n) w ps ≡ true) ↔ SetsFit n w ps
   sets-test = (sets-yes, yes-sets)
+
+-- ---- the open blocks
+agree-yes : (p : List Block) (o : List Open) → agree p o ≡ true → Same p o
+agree-yes [] [] t = tt
+agree-yes [] (x ∷ o) t = never t
+agree-yes (b ∷ p) [] t = never t
+agree-yes (b ∷ p) (x ∷ o) t =
+    let c1 : Bool = eqb (b .part) (number-of x) in
+    let c2 : Bool = eqb (b .opener) (opener-of x) in
+    let t1 : (c1 && c2) ≡ true = and-left (c1 && c2) (agree p o) t in (
+      eqb-true (b .part) (number-of x) (and-left c1 c2 t1),
+      eqb-true (b .opener) (opener-of x) (and-right c1 c2 t1),
+      agree-yes p o (and-right (c1 && c2) (agree p o) t),
+    )
+
+yes-agree : (p : List Block) (o : List Open) → Same p o → agree p o ≡ true
+yes-agree [] [] s = refl
+yes-agree [] (x ∷ o) s = absurd s
+yes-agree (b ∷ p) [] s = absurd s
+yes-agree (b ∷ p) (x ∷ o) s =
+    rw (eq-eqb (b .part) (number-of x) (s .0), eq-eqb (b .opener) (opener-of x) (s .1), yes-agree p o (s .2))
+
+place-yes : (f : Found) (p : List Block) → placeTest f p ≡ true → OpenThere f p
+place-yes nowhere p t = never t
+place-yes (there o) p t = agree-yes p o t
+
+yes-place : (f : Found) (p : List Block) → OpenThere f p → placeTest f p ≡ true
+yes-place nowhere p s = absurd s
+yes-place (there o) p s = yes-agree p o s
+
+-- ---- the whole state
+module _ (code : List ℕ) (registers n : ℕ) (h : Hot) (xs : List ℕ) where
+  fits-yes : fitsTest code registers n h xs ≡ true → Fits code registers n h xs
+  fits-yes t =
+      let c1 : Bool = leb n widest in
+      let c2 : Bool = leb (h .depth) nesting in
+      let c3 : Bool = placeTest (openAt (codeOf code registers) (h .place)) (waveOf h xs .path) in
+      let c4 : Bool = setsTest (first n) (waveOf h xs) (predsOf h) in
+      let t3 : (c1 && c2 && c3) ≡ true = and-left (c1 && c2 && c3) c4 t in
+      let t2 : (c1 && c2) ≡ true = and-left (c1 && c2) c3 t3 in
+      record {
+        wide = leb-true n widest (and-left c1 c2 t2);
+        deep = leb-true (h .depth) nesting (and-right c1 c2 t2);
+        wave =
+            record {
+              blocks = place-yes (openAt (codeOf code registers) (h .place)) (waveOf h xs .path) (and-right (c1 && c2) c3 t3);
+              sets = sets-yes n (waveOf h xs) (predsOf h) (and-right (c1 && c2 && c3) c4 t);
+            };
+      }
+
+  yes-fits : Fits code registers n h xs → fitsTest code registers n h xs ≡ true
+  yes-fits f =
+      rw (
+        le-leb n widest (f .wide),
+        le-leb (h .depth) nesting (f .deep),
+        yes-place (openAt (codeOf code registers) (h .place)) (waveOf h xs .path) (f .wave .blocks),
+        yes-sets n (waveOf h xs) (predsOf h) (f .wave .sets),
+      )
+
+  pub fits-test : (fitsTest code registers n h xs ≡ true) ↔ Fits code registers n h xs
+  fits-test = (fits-yes, yes-fits)

@@ -3,8 +3,11 @@ pub mod Walks
 pub mod Ruling
 pub mod View
 pub mod Tidying
+pub mod Guards
 pub mod Testing
+pub mod Comparing
 pub mod AtLane
 pub mod Fitting
 pub mod Keeps
-pub mod Comparing
+pub mod Stays
+pub mod OneAnswer
