@@ -16,11 +16,11 @@ use Rattle.words.specs.declared.fetching.ControlIn.{ControlIn}
 use Rattle.words.specs.declared.reading.ReadAnswer.{ReadAnswer}
 use Rattle.words.specs.declared.table.FoundOp.{FoundOp}
 use Rattle.words.specs.Table.{opOf}
-use Rattle.words.specs.Forms.{limitsOf, sizeOf, fits}
-use Rattle.words.specs.Layout.{bits, top, instrIn, spareZero}
+use Rattle.words.specs.Forms.{limitsOf, sizeOf, size, fits}
+use Rattle.words.specs.Layout.{opcodeIn, modifierIn, instrIn, spareZero}
 use Rattle.words.specs.Refusals.{Rule}
 use Rattle.words.specs.Reading.{refused, readFields, readOp, readFrom, readAt}
-use Rattle.words.specs.Fetching.{nop, saidBy, saidFrom, instrAt, wordCount, controlIn}
+use Rattle.words.specs.Fetching.{nop, saidBy, saidFrom, instrAt, controlIn}
 
 -- ---- by the numbers that the code has
 module _ (ws : List ℕ) (at : ℕ) where
@@ -29,17 +29,17 @@ module _ (ws : List ℕ) (at : ℕ) where
   fetch-past h = rw (drop-of-length-le ws h)
 
   module _ (here : at < length ws) where
-    said : instrAt ws at ≡ saidBy (opOf (top (getD ws at 0)) (bits 7 4 (getD ws at 0))) (getD ws at 0) (getD ws (at + 1) 0)
+    said : instrAt ws at ≡ saidBy (opOf (opcodeIn (getD ws at 0)) (modifierIn (getD ws at 0))) (getD ws at 0) (getD ws (at + 1) 0)
     unfolding instrAt
     said =
         let next : suc at + 0 ≡ at + 1 = omega arith in
         rw (drop-cons ws at 0 here, getD-drop (suc at) ws 0 0, next)
 
-    pub fetch-missing : opOf (top (getD ws at 0)) (bits 7 4 (getD ws at 0)) ≡ FoundOp.Missing → instrAt ws at ≡ nop
+    pub fetch-missing : opOf (opcodeIn (getD ws at 0)) (modifierIn (getD ws at 0)) ≡ FoundOp.Missing → instrAt ws at ≡ nop
     fetch-missing e = said ∙ rw e
 
     pub fetch-carried :
-        (o : Op) (l : Limits) (v : ℕ) → opOf (top (getD ws at 0)) (bits 7 4 (getD ws at 0)) ≡ FoundOp.Carried o → l ≡ limitsOf o →
+        (o : Op) (l : Limits) (v : ℕ) → opOf (opcodeIn (getD ws at 0)) (modifierIn (getD ws at 0)) ≡ FoundOp.Carried o → l ≡ limitsOf o →
         v ≡ getD ws (at + 1) 0 → instrAt ws at ≡ instrIn (l .second) o (getD ws at 0) v
     fetch-carried o l v e el ev = said ∙ rw (e, el, ev)
 
@@ -58,12 +58,12 @@ early true k p m n x i e = (cc, cc)
 early false k p m n x i e = not-read k p n i e
 
 -- the operation stands in the instruction, whatever the second word is
-op-stays : (s : Second) (o : Op) (w v : ℕ) → wordCount (instrIn s o w v .op) ≡ wordCount o
+op-stays : (s : Second) (o : Op) (w v : ℕ) → size (instrIn s o w v .op) ≡ size o
 op-stays Second.Nothing o w v = refl
 op-stays Second.Number o w v = refl
 op-stays (Second.Registers a b c) o w v = refl
 
-by-op : (f : FoundOp) (w : ℕ) (ws : List ℕ) (at n : ℕ) (i : Instr) → readOp f w ws at ≡ ReadAnswer.Read i n → (saidBy f w (getD ws 0 0) ≡ i) × (wordCount (i .op) ≡ n)
+by-op : (f : FoundOp) (w : ℕ) (ws : List ℕ) (at n : ℕ) (i : Instr) → readOp f w ws at ≡ ReadAnswer.Read i n → (saidBy f w (getD ws 0 0) ≡ i) × (size (i .op) ≡ n)
 by-op FoundOp.Missing w ws at n i e = not-read _ _ n i e
 by-op (FoundOp.Carried o) w ws at n i e =
     let l = limitsOf o in
@@ -71,14 +71,14 @@ by-op (FoundOp.Carried o) w ws at n i e =
     let p =
     early (spareZero (l .second) w (getD ws 0 0) && fits l x) 6 at (sizeOf (l .second)) n x i
     (late (ltb (suc (length ws)) (sizeOf (l .second))) 5 at n (readFields o l w (getD ws 0 0) at) i e) in
-    (p .0, ap (λ (x : Instr). wordCount (x .op)) (sym (p .0)) ∙ op-stays (limitsOf o .second) o w (getD ws 0 0) ∙ p .1)
+    (p .0, ap (λ (x : Instr). size (x .op)) (sym (p .0)) ∙ op-stays (limitsOf o .second) o w (getD ws 0 0) ∙ p .1)
 
-from-words : (ws : List ℕ) (at n : ℕ) (i : Instr) → readFrom ws at ≡ ReadAnswer.Read i n → (saidFrom ws ≡ i) × (wordCount (i .op) ≡ n)
+from-words : (ws : List ℕ) (at n : ℕ) (i : Instr) → readFrom ws at ≡ ReadAnswer.Read i n → (saidFrom ws ≡ i) × (size (i .op) ≡ n)
 from-words [] at n i e = not-read _ _ n i e
-from-words (w ∷ ws) at n i e = by-op (opOf (top w) (bits 7 4 w)) w ws at n i e
+from-words (w ∷ ws) at n i e = by-op (opOf (opcodeIn w) (modifierIn w)) w ws at n i e
 
 -- where reading gives an instruction, it is the one that is fetched, and it has as many words as its operation
-pub fetched : (ws : List ℕ) (at n : ℕ) (i : Instr) → readAt ws at ≡ ReadAnswer.Read i n → (instrAt ws at ≡ i) × (wordCount (i .op) ≡ n)
+pub fetched : (ws : List ℕ) (at n : ℕ) (i : Instr) → readAt ws at ≡ ReadAnswer.Read i n → (instrAt ws at ≡ i) × (size (i .op) ≡ n)
 unfolding instrAt
 fetched ws at n i e = from-words (drop at ws) at n i e
 

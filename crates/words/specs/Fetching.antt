@@ -9,8 +9,8 @@ use Rattle.words.specs.declared.instr.Op.{Op}
 use Rattle.words.specs.declared.fetching.ControlIn.{ControlIn}
 use Rattle.words.specs.declared.table.FoundOp.{FoundOp}
 use Rattle.words.specs.Table.{opOf}
-use Rattle.words.specs.Forms.{limitsOf, sizeOf}
-use Rattle.words.specs.Layout.{bits, top, instr, instrIn}
+use Rattle.words.specs.Forms.{limitsOf}
+use Rattle.words.specs.Layout.{opcodeIn, modifierIn, instr, instrIn}
 
 abbrev pub nop : Instr
 nop = instr (Op.Control ControlOp.Nop) (record { pred = 0; negate = false }) 0 0 0 0 0 0
@@ -22,15 +22,11 @@ saidBy (FoundOp.Carried o) w v = instrIn (limitsOf o .second) o w v
 
 abbrev pub saidFrom : List ℕ → Instr
 saidFrom [] = nop
-saidFrom (w ∷ ws) = saidBy (opOf (top w) (bits 7 4 w)) w (getD ws 0 0)
+saidFrom (w ∷ ws) = saidBy (opOf (opcodeIn w) (modifierIn w)) w (getD ws 0 0)
 
 -- the instruction at a place; NOP where no word stands, or none that names an operation
 unfoldable pub instrAt : List ℕ → ℕ → Instr
 instrAt ws at = saidFrom (drop at ws)
-
--- how many words an operation has
-abbrev pub wordCount : Op → ℕ
-wordCount op = sizeOf (limitsOf op .second)
 
 -- the control operation that an operation is, if it is one
 abbrev pub controlIn : Op → ControlIn

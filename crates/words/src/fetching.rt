@@ -9,7 +9,8 @@ use crate::reading::word_at;
 use crate::table::FoundOp;
 use crate::table::op_of;
 ghost use mathlib.Core.Path.{_≡_};
-ghost use Rattle.words.specs.Fetching.{nop, instrAt, controlIn, wordCount};
+ghost use Rattle.words.specs.Fetching.{nop, instrAt, controlIn};
+ghost use Rattle.words.specs.Forms.{size};
 
 // A control operation, or any other.
 pub enum ControlIn {
@@ -74,7 +75,7 @@ pub fn control_in(op: Op) -> ControlIn
 
 // How many words an operation's instructions have.
 pub fn word_count(op: Op) -> u32
-    ensures { λ r. ⌜ r ≡ wordCount op ⌝ }
+    ensures { λ r. ⌜ r ≡ size op ⌝ }
 {
     match op {
         Op::Two(_) => 2,
