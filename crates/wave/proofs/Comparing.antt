@@ -17,7 +17,8 @@ use Rattle.blocks.specs.Code.{codeOf}
 use Rattle.blocks.specs.Scan.{nesting, Open}
 use Rattle.blocks.specs.OpenAt.{Found, nowhere, there, openAt, shown, filled, number-of, opener-of}
 use Rattle.blocks.proofs.Widths.{code-fits}
-use Rattle.blocks.proofs.Theorems.{at-most}
+use Rattle.blocks.proofs.Openers.{at-most}
+use Rattle.blocks.proofs.Stacks.{length-filled}
 use Rattle.wave.specs.declared.state.Block.{Block}
 use Rattle.wave.specs.declared.state.Hot.{Hot}
 use Rattle.wave.specs.Layout.{opened}
@@ -38,11 +39,6 @@ pub same-end : (xs parts openers : List ℕ) (ok : Bool) (i d : ℕ) → i ≡ 0
 same-end xs parts openers ok i d z e = sym (and-true ok) ∙ rw z at e
 
 -- ---- the code's blocks in their arrays
-filled-length : (f : Open → ℕ) (o : List Open) → length (filled f o) ≡ nesting
-unfolding filled
-filled-length f [] = refl
-filled-length f (x ∷ o) = length-set (filled f o) (length o) (f x) ∙ filled-length f o
-
 -- what stands further in is not compared
 same-below : (xs parts openers : List ℕ) (k v w d : ℕ) → d ≤ k → sameBlocks xs (set parts k v) (set openers k w) d ≡ sameBlocks xs parts openers d
 same-below xs parts openers k v w zero h = refl
@@ -59,8 +55,8 @@ unfolding filled
 same-agree xs [] h = refl
 same-agree xs (x ∷ o) h =
     rw (
-      getD-set-same (filled number-of o) (length o) (number-of x) 0 (omega (arith, filled-length number-of o)),
-      getD-set-same (filled opener-of o) (length o) (opener-of x) 0 (omega (arith, filled-length opener-of o)),
+      getD-set-same (filled number-of o) (length o) (number-of x) 0 (omega (arith, length-filled number-of o)),
+      getD-set-same (filled opener-of o) (length o) (opener-of x) 0 (omega (arith, length-filled opener-of o)),
       same-below xs (filled number-of o) (filled opener-of o) (length o) (number-of x) (opener-of x) (length o) (omega arith),
       same-agree xs o (omega arith),
     )

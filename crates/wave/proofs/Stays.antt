@@ -21,7 +21,9 @@ use Rattle.blocks.specs.Code.{codeOf}
 use Rattle.blocks.specs.Scan.{nesting, Open, open-at, before, after, looping, in-loop, checkOf}
 use Rattle.blocks.specs.OpenAt.{Found, nowhere, there, openAt}
 use Rattle.blocks.proofs.Widths.{code-fits}
-use Rattle.blocks.proofs.Theorems.{open-at-start, at-most, Allowed, allowed, EachOpened, each-opened}
+use Rattle.blocks.proofs.Induction.{open-at-start}
+use Rattle.blocks.proofs.Openers.{at-most, EachOpened, each-opened}
+use Rattle.blocks.proofs.Theorems.{Allowed, allowed}
 use Rattle.wave.specs.declared.state.Block.{Block}
 use Rattle.wave.specs.Wave.{Wave, Preds, launch, clear, stateOf}
 use Rattle.wave.specs.Rules.{onBy, next, leave, broken, continued, toLoop, isLoop, onwardBy, elseOn, endifOn, endloopOn, barred, onward}

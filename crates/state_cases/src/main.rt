@@ -1,0 +1,126 @@
+// Asks of the states on the standard input whether they fit. A case is a line of hexadecimal numbers, with a space between two: the number of
+// registers, the launched lanes n, how many words the code has, the code, the seven hot numbers, and numbers of the open blocks (0 where the
+// line ends first). For each it writes a line, `fits` or `11`.
+use libc::STDIN_FILENO;
+use libc::STDOUT_FILENO;
+use wave::fits::fits;
+use wave::state::Hot;
+use wave::state::PATH_NUMBERS;
+ghost use Prim.Native.Nat.{_≤_, _+_};
+
+// The numbers of the longest case.
+const LONGEST: usize = 320;
+
+// The registers, n and the length of the code.
+const SETTINGS: usize = 3;
+
+// The hot numbers.
+const HOT: usize = 7;
+
+// A line so far: its numbers, how many they are, and the number that is being read.
+struct Line {
+    numbers: [u32; LONGEST],
+    count: usize,
+    number: u32,
+}
+
+// What a hexadecimal digit stands for.
+fn digit(letter: u8) -> u32 {
+    if letter <= b'9' {
+        (letter % 16) as u32
+    } else {
+        (letter % 16) as u32 + 9
+    }
+}
+
+// The line with one letter more, which is a digit or ends a number.
+fn with_letter(line: Line, letter: u8) -> Line {
+    let mut next = line;
+    let number = line.number;
+    let count = line.count;
+    if b'0' <= letter {
+        next.number = number % 0x1000_0000 * 16 + digit(letter) % 16;
+        return next;
+    }
+    next.number = 0;
+    if count < LONGEST {
+        next.numbers[count] = number;
+        next.count = count + 1;
+    }
+    next
+}
+
+// The hot numbers that begin at a place of the line.
+fn hot_at(numbers: &[u32; LONGEST], at: usize) -> Hot
+    requires { ⌜ at + 7 ≤ 320 ⌝ }
+{
+    Hot {
+        place: numbers[at],
+        active: numbers[at + 1],
+        halted: numbers[at + 2],
+        p1: numbers[at + 3],
+        p2: numbers[at + 4],
+        p3: numbers[at + 5],
+        depth: numbers[at + 6],
+    }
+}
+
+// The numbers of the open blocks, which begin at a place of the line.
+fn blocks_at(numbers: &[u32; LONGEST], at: usize) -> [u32; PATH_NUMBERS]
+    requires { ⌜ at ≤ 320 ⌝ }
+{
+    let mut bl = [0u32; PATH_NUMBERS];
+    let mut i: usize = 0;
+    while i < PATH_NUMBERS {
+        let from = at + i;
+        if from < LONGEST {
+            bl[i] = numbers[from];
+        }
+        i += 1;
+    }
+    bl
+}
+
+// Writes the line of a case.
+fn report(line: Line) {
+    let numbers = line.numbers;
+    let words = numbers[2] as usize;
+    let start = SETTINGS + words;
+    if LONGEST < start + HOT {
+        return;
+    }
+    let hot = hot_at(&numbers, start);
+    let bl = blocks_at(&numbers, start + HOT);
+    let registers = numbers[0];
+    let n = numbers[1];
+    if fits(&numbers[SETTINGS..start], registers, n, hot, &bl) {
+        io::write_all(STDOUT_FILENO, b"fits\n");
+    } else {
+        io::write_all(STDOUT_FILENO, b"11\n");
+    }
+}
+
+// No number yet.
+fn empty_line() -> Line {
+    Line {
+        numbers: [0u32; LONGEST],
+        count: 0,
+        number: 0,
+    }
+}
+
+fn main() {
+    let mut text = io::large_buffer();
+    let given = io::read_full(STDIN_FILENO, &mut text);
+    let mut line = empty_line();
+    let mut at: usize = 0;
+    while at < given {
+        let letter = text[at];
+        line = with_letter(line, letter);
+        if letter == b'\n' {
+            report(line);
+            line = empty_line();
+        }
+        at += 1;
+    }
+}
