@@ -1,0 +1,4 @@
+pub mod Memory
+pub mod Operands
+pub mod Faulting
+pub mod Carrying
