@@ -2,4 +2,3 @@ pub mod Registers
 pub mod Quotients
 pub mod Counting
 pub mod Bounds
-pub mod Marked

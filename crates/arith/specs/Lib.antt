@@ -1,2 +1,1 @@
 pub mod Arith
-pub mod Marked

@@ -1,6 +1,6 @@
 -- What stands at a place of checked code is an instruction that reading gives, with its registers in bounds.
 use Prim.Native.Nat.{ℕ, _<_}
-use mathlib.Core.Path.{_≡_, refl, ap, _∙_}
+use mathlib.Core.Path.{_≡_, refl}
 use mathlib.Core.Bool.{Bool, true, false, cond}
 use mathlib.Core.List.{List}
 use lib.ListN.{length}
@@ -15,6 +15,7 @@ use Rattle.blocks.specs.Item.{itemOf, seen, itemAt}
 use Rattle.blocks.specs.Code.{Code, codeOf}
 use Rattle.blocks.specs.Scan.{Open, checkOf}
 use Rattle.blocks.specs.OpenAt.{there, openAt}
+use Rattle.blocks.proofs.Items.{seen-whole}
 use Rattle.blocks.proofs.Widths.{read-wide, code-fits}
 use Rattle.blocks.proofs.Theorems.{Allowed, allowed}
 
@@ -50,7 +51,6 @@ not-bad code (Item.Bad n) at o a = a
 module _ (words : List ℕ) (registers at : ℕ) where
   below-seen : (i : Instr) (n : ℕ) → readAt words at ≡ ReadAnswer.Read i n → (b : Bool) → registersBelow registers i ≡ b
       → NotBad (cond b (itemOf (i .op) n) (Item.Bad 7)) → Instruction words registers at
-  unfolding itemAt
   below-seen i n e true f ok =
       record {
         instr = i;
@@ -58,7 +58,7 @@ module _ (words : List ℕ) (registers at : ℕ) where
         reads = e;
         below = f;
         wide = read-wide words at i n e .0;
-        item-is = ap (seen registers) e ∙ ap (λ (b : Bool). cond b (itemOf (i .op) n) (Item.Bad 7)) f;
+        item-is = seen-whole words registers at e f;
       }
   below-seen i n e false f ok = absurd ok
 

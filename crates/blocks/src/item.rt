@@ -17,6 +17,9 @@ pub enum Item {
     Bad(u32),
 }
 
+// The rule of register numbers, by its number.
+const REGISTER: u32 = 7;
+
 // What a control instruction is to the blocks.
 fn control_item(op: ControlOp) -> Item
     ensures { λ r. ⌜ r ≡ controlItem op ⌝ }
@@ -64,7 +67,7 @@ pub fn look(code: &[u32], registers: u32, at: usize) -> Item
                 let op = instr.op;
                 item_of(op, words)
             } else {
-                Item::Bad(7)
+                Item::Bad(REGISTER)
             }
         }
         ReadAnswer::Refused { number, place: _ } => Item::Bad(number),

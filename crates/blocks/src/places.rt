@@ -27,7 +27,7 @@ pub struct OpenAt {
     pub stack: Stack,
 }
 
-// The number of a part.
+// The number of a part. Outside every block it is never used.
 fn number(inside: Inside) -> u32
     ensures { λ r. ⌜ r ≡ numberOf inside ⌝ }
 {
@@ -39,7 +39,7 @@ fn number(inside: Inside) -> u32
     }
 }
 
-// The part of a number.
+// The part of a number; 0 is that of no block.
 fn inside_from(number: u32) -> Inside
     ensures { λ r. ⌜ r ≡ insideFrom number ⌝ }
 {

@@ -3,6 +3,11 @@ use crate::item::Item;
 ghost use mathlib.Core.Path.{_≡_};
 ghost use Rattle.blocks.specs.Rules.{opening, atElse, atEndif, atEndloop, turnOf};
 
+// The rules of stray instructions and of depth, by their numbers.
+const STRAY: u32 = 8;
+
+const DEPTH: u32 = 9;
+
 // What an instruction stands directly inside: no block, an IF before its ELSE, an IF after it, a loop.
 pub enum Inside {
     Nothing,
@@ -25,7 +30,7 @@ fn at_opener(room: usize, inside: Inside, in_loop: bool) -> Turn
     ensures { λ r. ⌜ r ≡ opening room inside in_loop ⌝ }
 {
     if room == 0 {
-        Turn::Stop(9)
+        Turn::Stop(DEPTH)
     } else {
         Turn::Enter(inside, in_loop)
     }
@@ -36,10 +41,10 @@ fn at_else(inside: Inside) -> Turn
     ensures { λ r. ⌜ r ≡ atElse inside ⌝ }
 {
     match inside {
-        Inside::Nothing => Turn::Stop(8),
+        Inside::Nothing => Turn::Stop(STRAY),
         Inside::Before => Turn::Go(1, Inside::After),
-        Inside::After => Turn::Stop(8),
-        Inside::Loop => Turn::Stop(8),
+        Inside::After => Turn::Stop(STRAY),
+        Inside::Loop => Turn::Stop(STRAY),
     }
 }
 
@@ -48,10 +53,10 @@ fn at_endif(inside: Inside) -> Turn
     ensures { λ r. ⌜ r ≡ atEndif inside ⌝ }
 {
     match inside {
-        Inside::Nothing => Turn::Stop(8),
+        Inside::Nothing => Turn::Stop(STRAY),
         Inside::Before => Turn::Close,
         Inside::After => Turn::Close,
-        Inside::Loop => Turn::Stop(8),
+        Inside::Loop => Turn::Stop(STRAY),
     }
 }
 
@@ -60,9 +65,9 @@ fn at_endloop(inside: Inside) -> Turn
     ensures { λ r. ⌜ r ≡ atEndloop inside ⌝ }
 {
     match inside {
-        Inside::Nothing => Turn::Stop(8),
-        Inside::Before => Turn::Stop(8),
-        Inside::After => Turn::Stop(8),
+        Inside::Nothing => Turn::Stop(STRAY),
+        Inside::Before => Turn::Stop(STRAY),
+        Inside::After => Turn::Stop(STRAY),
         Inside::Loop => Turn::Close,
     }
 }
@@ -80,7 +85,7 @@ pub fn judge(item: Item, room: usize, inside: Inside, in_loop: bool) -> Turn
         Item::Jump => if in_loop {
             Turn::Go(1, inside)
         } else {
-            Turn::Stop(8)
+            Turn::Stop(STRAY)
         },
         Item::Endloop => at_endloop(inside),
         Item::Bad(number) => Turn::Stop(number),

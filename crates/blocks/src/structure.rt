@@ -13,6 +13,9 @@ ghost use Rattle.blocks.specs.Levels.{LevelSays};
 // The room for nesting.
 pub const NESTING: usize = 32;
 
+// The rule of blocks that are open at the end, by its number.
+const UNCLOSED: u32 = 10;
+
 // How a level ends: closed, with the place after its end; refused, with the rule's number and the place; or by the end of the code.
 pub enum LevelEnd {
     Closed(usize),
@@ -64,7 +67,7 @@ fn level(
                         return LevelEnd::Refused(number, place);
                     }
                     LevelEnd::Ended => {
-                        return LevelEnd::Refused(10, at);
+                        return LevelEnd::Refused(UNCLOSED, at);
                     }
                 }
             }

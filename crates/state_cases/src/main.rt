@@ -8,8 +8,13 @@ use wave::state::Hot;
 use wave::state::PATH_NUMBERS;
 ghost use Prim.Native.Nat.{_≤_, _+_};
 
-// The numbers of the longest case.
+// The numbers of the longest case, and so many that a state's blocks can be read past them.
 const LONGEST: usize = 320;
+
+const SPACE: usize = 512;
+
+// The code has fewer words than this.
+const WORDS: u32 = 256;
 
 // The registers, n and the length of the code.
 const SETTINGS: usize = 3;
@@ -19,7 +24,7 @@ const HOT: usize = 7;
 
 // A line so far: its numbers, how many they are, and the number that is being read.
 struct Line {
-    numbers: [u32; LONGEST],
+    numbers: [u32; SPACE],
     count: usize,
     number: u32,
 }
@@ -51,7 +56,7 @@ fn with_letter(line: Line, letter: u8) -> Line {
 }
 
 // The hot numbers that begin at a place of the line.
-fn hot_at(numbers: &[u32; LONGEST], at: usize) -> Hot
+fn hot_at(numbers: &[u32; SPACE], at: usize) -> Hot
     requires { ⌜ at + 7 ≤ 320 ⌝ }
 {
     Hot {
@@ -66,34 +71,33 @@ fn hot_at(numbers: &[u32; LONGEST], at: usize) -> Hot
 }
 
 // The numbers of the open blocks, which begin at a place of the line.
-fn blocks_at(numbers: &[u32; LONGEST], at: usize) -> [u32; PATH_NUMBERS]
+fn blocks_at(numbers: &[u32; SPACE], at: usize) -> [u32; PATH_NUMBERS]
     requires { ⌜ at ≤ 320 ⌝ }
 {
     let mut bl = [0u32; PATH_NUMBERS];
     let mut i: usize = 0;
     while i < PATH_NUMBERS {
-        let from = at + i;
-        if from < LONGEST {
-            bl[i] = numbers[from];
-        }
+        bl[i] = numbers[at + i];
         i += 1;
     }
     bl
 }
 
+// Whether the state of a case fits its code.
+fn answer(numbers: [u32; SPACE]) -> bool {
+    let registers = numbers[0];
+    let n = numbers[1];
+    let words = numbers[2] % WORDS;
+    let start = SETTINGS + words as usize;
+    let hot = hot_at(&numbers, start);
+    let bl = blocks_at(&numbers, start + HOT);
+    fits(&numbers[SETTINGS..start], registers, n, hot, &bl)
+}
+
 // Writes the line of a case.
 fn report(line: Line) {
     let numbers = line.numbers;
-    let words = numbers[2] as usize;
-    let start = SETTINGS + words;
-    if LONGEST < start + HOT {
-        return;
-    }
-    let hot = hot_at(&numbers, start);
-    let bl = blocks_at(&numbers, start + HOT);
-    let registers = numbers[0];
-    let n = numbers[1];
-    if fits(&numbers[SETTINGS..start], registers, n, hot, &bl) {
+    if answer(numbers) {
         io::write_all(STDOUT_FILENO, b"fits\n");
     } else {
         io::write_all(STDOUT_FILENO, b"11\n");
@@ -103,7 +107,7 @@ fn report(line: Line) {
 // No number yet.
 fn empty_line() -> Line {
     Line {
-        numbers: [0u32; LONGEST],
+        numbers: [0u32; SPACE],
         count: 0,
         number: 0,
     }

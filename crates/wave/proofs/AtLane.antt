@@ -1,13 +1,12 @@
 -- The sets of a wave fit, said at one lane and from the inside out: at a lane a set is 0 or 1 and a disjoint union is a sum, so that each
 -- law about fitting sets is arithmetic. It says what `SetsFit` says.
-use mathlib.Core.Path.{_≡_, refl, sym, ap, _∙_, subst}
-use mathlib.Core.Bool.{Bool, true, false, cond}
+use mathlib.Core.Path.{_≡_, refl, sym, _∙_, subst}
+use mathlib.Core.Bool.{false}
 use mathlib.Core.List.{List, [], _∷_, _++_}
 use mathlib.Core.Logic.{dite}
-use Prim.Native.Nat.{ℕ, zero, suc, _+_, _≤_, _<_}
+use Prim.Native.Nat.{ℕ, _+_, _≤_, _<_}
 use native.Mathlib.Omega.{arith}
 use native.Mathlib.Decide.{decLt}
-use lib.Dec.{ltb}
 use borrow.Author.Tests.{lt-ltb, le-ltb}
 use Rattle.lanes.specs.Sets.{bit, first}
 use Rattle.lanes.proofs.Bits.{bit-le, bit-zero, bit-first, set-ext}

@@ -3,7 +3,7 @@ use mathlib.Core.Path.{_≡_, refl, sym, ap, _∙_}
 use mathlib.Core.Bool.{Bool, true, false, _&&_, _||_}
 use mathlib.Core.Logic.{_↔_}
 use mathlib.Core.List.{List, [], _∷_}
-use Prim.Native.Nat.{ℕ, _+_, _≤_, max}
+use Prim.Native.Nat.{ℕ, _+_, _≤_}
 use native.Mathlib.Omega.{arith}
 use borrow.Author.Tests.{eqb-true, eq-eqb, leb-true, le-leb}
 use lib.Bits.{bitAnd, bitOr}
@@ -20,7 +20,7 @@ use Rattle.wave.specs.Wave.{Wave, Preds, waveOf, predsOf}
 use Rattle.wave.specs.Rules.{isLoop}
 use Rattle.wave.specs.Fits.{SetsFit, Same, OpenThere, Fits}
 use Rattle.wave.specs.FitsTest.{apart, joins, within, withAside, blockTest, pathTest, setsTest, agree, placeTest, fitsTest}
-use Rattle.wave.proofs.AtLane.{FitsAt, FitsLanes, PredsFit, at, fits-lanes, lanes-fit}
+use Rattle.wave.proofs.AtLane.{FitsAt, at, fits-lanes, lanes-fit}
 
 -- ---- each test by itself
 apart-yes : (a b : ℕ) → apart a b ≡ true → (i : ℕ) → bit (bitOr a b) i ≡ bit a i + bit b i

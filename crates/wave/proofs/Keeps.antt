@@ -2,16 +2,16 @@
 use mathlib.Core.Path.{_≡_, refl, sym, ap, _∙_}
 use mathlib.Core.Bool.{Bool, true, false, cond}
 use mathlib.Core.List.{List, [], _∷_, map}
-use Prim.Native.Nat.{ℕ, _+_, _-_, _≤_, _<_, min, max}
+use Prim.Native.Nat.{ℕ, _+_, _-_, _≤_}
 use native.Mathlib.Omega.{arith}
 use borrow.Author.Tests.{lt-ltb, eqb-true}
 use lib.ListN.{length}
-use lib.Bits.{bitAnd, bitOr}
+use lib.Bits.{bitOr}
 use lib.Dec.{eqb}
 use Rattle.ground.proofs.Bools.{never}
 use Rattle.words.specs.declared.instr.ControlOp.{ControlOp}
 use Rattle.words.specs.declared.instr.ControlOp.the-variants.{If, Else, Endif, Loop, Break, Continue, Endloop, Halt, Barrier, Nop}
-use Rattle.lanes.specs.Sets.{bit, without, first}
+use Rattle.lanes.specs.Sets.{bit, first}
 use Rattle.lanes.proofs.Bits.{bit-le, bit-zero, bit-and, bit-or, bit-without, set-ext}
 use Rattle.wave.specs.declared.state.Block.{Block}
 use Rattle.blocks.specs.Scan.{nesting}
@@ -34,7 +34,7 @@ use Rattle.wave.specs.Rules.{
 use Rattle.wave.specs.Control.{controlRule}
 use Rattle.wave.specs.Fits.{SetsFit}
 use Rattle.wave.specs.Ready.{TopLoop, TopHalf, SomeLoop, Ready, HandsBack}
-use Rattle.wave.proofs.AtLane.{FitsAt, FitsLanes, PredsFit, at, launched, fits-lanes, lanes-fit}
+use Rattle.wave.proofs.AtLane.{FitsAt, PredsFit, at, launched, fits-lanes, lanes-fit}
 
 -- the wave fits at lane i, with l the launched lanes
 abbrev WaveFits : ℕ → ℕ → Wave → Type 0

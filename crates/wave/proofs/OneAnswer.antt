@@ -10,8 +10,7 @@ use Rattle.blocks.specs.Scan.{nesting}
 use Rattle.wave.specs.declared.state.Hot.{Hot}
 use Rattle.wave.specs.declared.state.State.{State}
 use Rattle.wave.specs.declared.rules.Stepped.{Stepped}
-use Rattle.wave.specs.Layout.{arrayOf}
-use Rattle.wave.specs.Wave.{waveOf, predsOf, hotOf, Held, held, stateOf, launch, clear}
+use Rattle.wave.specs.Wave.{waveOf, predsOf, hotOf, Held, held, tidied, stateOf, launch, clear}
 use Rattle.wave.specs.Rules.{onwardBy, executingOf}
 use Rattle.wave.specs.Control.{Given, given, controlOf}
 use Rattle.wave.specs.FitsTest.{fitsTest}
@@ -38,8 +37,8 @@ one-fits code registers n h xs r q e f = e ∙ sym f
 
 -- lent xs, the one left ys and the other zs
 pub one-tidy : (h : Hot) (xs : List ℕ) (r q : Hot) (ys zs : List ℕ)
-    → held r ys ≡ held (hotOf (waveOf h xs) (predsOf h)) (arrayOf (waveOf h xs .path))
-    → held q zs ≡ held (hotOf (waveOf h xs) (predsOf h)) (arrayOf (waveOf h xs .path)) → (r ≡ q) × (ys ≡ zs)
+    → held r ys ≡ tidied h xs
+    → held q zs ≡ tidied h xs → (r ≡ q) × (ys ≡ zs)
 one-tidy h xs r q ys zs e f = (ap (λ (x : Held). x .hot) (e ∙ sym f), ap (λ (x : Held). x .numbers) (e ∙ sym f))
 
 abbrev steppedBy : Given → Stepped

@@ -1,8 +1,8 @@
 -- Each control rule on the hot numbers and the array does what the rule says of the wave. What a rule's function has read before it looks
 -- at a block is one record; the laws go from there to the function's promise.
 use mathlib.Core.Path.{_≡_, refl, ap, ap₂, sym, _∙_}
-use mathlib.Core.List.{List, [], _∷_, map}
-use mathlib.Core.Bool.{Bool, true, false}
+use mathlib.Core.List.{List, _∷_, map}
+use mathlib.Core.Bool.{true, false}
 use Prim.Native.Nat.{ℕ, zero, suc, _+_, _-_, _*_, _≤_, _<_, min}
 use native.Mathlib.Nat.{min-le-right}
 use native.Mathlib.Omega.{arith}
@@ -15,8 +15,8 @@ use Rattle.wave.specs.declared.state.Block.{Block}
 use Rattle.wave.specs.declared.state.Hot.{Hot}
 use Rattle.wave.specs.declared.rules.Stepped.{Stepped}
 use Rattle.blocks.specs.Scan.{nesting}
-use Rattle.wave.specs.Layout.{pathNumbers, blockNumbers, afterElse, six, laid, blockAt, opened, put, over}
-use Rattle.wave.specs.Wave.{Wave, waveOf, predsOf, hotOf, Held, held, after, Does}
+use Rattle.wave.specs.Layout.{pathNumbers, blockNumbers, afterElse, laid, blockAt, opened, put, over}
+use Rattle.wave.specs.Wave.{Wave, waveOf, predsOf, hotOf, Held, held, Does}
 use Rattle.wave.specs.Rules.{
   onBy,
   next,
@@ -28,6 +28,7 @@ use Rattle.wave.specs.Rules.{
   leave,
   opens,
   toLoop,
+  asideRule,
   elseRule,
   endifRule,
   endloopRule,
@@ -36,7 +37,7 @@ use Rattle.wave.specs.Rules.{
   barrierLanes,
   barrierRule,
 }
-use Rattle.wave.specs.Search.{loopAt, same}
+use Rattle.wave.specs.Search.{loopAt, same, Joins}
 use Rattle.wave.specs.Control.{Given, given, giving, controlRule, faultLanes, controlOf}
 use Rattle.wave.proofs.Laying.{length-opened, set-number, set-next, over-top, over-same}
 use Rattle.wave.proofs.Walks.{walked, length-toLoop, aside-at}
@@ -107,12 +108,12 @@ module _ {h : Hot} {xs : List ℕ} {d p : ℕ} (g : Begun h xs d p) where
       becomes f p a (d + 1) (b ∷ opened xs d) ys (rw (g .place, ← o) s) (omega (arith, length-opened xs d))
       (rw (
         y,
-        set-number xs d l (6 * d) 0 (b .part) (omega arith),
-        set-next xs d l _ (6 * d + 1) 1 (b .opener) refl,
-        set-next xs d l _ (6 * d + 2) 2 (b .entered) refl,
-        set-next xs d l _ (6 * d + 3) 3 (b .aside) refl,
-        set-next xs d l _ (6 * d + 4) 4 (b .again) refl,
-        set-next xs d l _ (6 * d + 5) 5 (b .left) refl,
+        set-number xs d l (blockNumbers * d) 0 (b .part) (omega arith),
+        set-next xs d l _ (blockNumbers * d + 1) 1 (b .opener) refl,
+        set-next xs d l _ (blockNumbers * d + 2) 2 (b .entered) refl,
+        set-next xs d l _ (blockNumbers * d + 3) 3 (b .aside) refl,
+        set-next xs d l _ (blockNumbers * d + 4) 4 (b .again) refl,
+        set-next xs d l _ (blockNumbers * d + 5) 5 (b .left) refl,
       )
       (sym (over-top xs d l b)))
 
@@ -120,19 +121,19 @@ module _ {h : Hot} {xs : List ℕ} {d p : ℕ} (g : Begun h xs d p) where
 module _ {h : Hot} {xs : List ℕ} {p : ℕ} where
   -- ELSE
   pub turned-one : (d : ℕ) → Begun h xs d p → (d ≡ 0 → ⊥)
-      → Does elseRule h xs (hotAt h p (getD xs (6 * (d - 1) + 3) 0) d)
-      (set (set xs (6 * (d - 1)) afterElse) (6 * (d - 1) + 3) (h .active))
+      → Does elseRule h xs (hotAt h p (getD xs (blockNumbers * (d - 1) + 3) 0) d)
+      (set (set xs (blockNumbers * (d - 1)) afterElse) (blockNumbers * (d - 1) + 3) (h .active))
   turned-one zero g n = absurd (n refl)
   turned-one (suc d) g n =
       let l = room g in
       let z : suc d - 1 ≡ d = omega arith in
       rw z
       (becomes g elseRule p _ (suc d) (turned (h .active) (blockAt xs d) ∷ opened xs d) _ (rw (g .place)) (ap suc (sym (length-opened xs d)))
-      (rw (set-number xs d l (6 * d) 0 afterElse (omega arith), set-next xs d l _ (6 * d + 3) 3 (h .active) refl) (sym (over-top xs d l _))))
+      (rw (set-number xs d l (blockNumbers * d) 0 afterElse (omega arith), set-next xs d l _ (blockNumbers * d + 3) 3 (h .active) refl) (sym (over-top xs d l _))))
 
   -- ENDIF
   pub closed-one : (d : ℕ) → Begun h xs d p → (d ≡ 0 → ⊥)
-      → Does endifRule h xs (hotAt h p (bitOr (h .active) (getD xs (6 * (d - 1) + 3) 0)) (d - 1)) xs
+      → Does endifRule h xs (hotAt h p (bitOr (h .active) (getD xs (blockNumbers * (d - 1) + 3) 0)) (d - 1)) xs
   closed-one zero g n = absurd (n refl)
   closed-one (suc d) g n =
       let l = room g in
@@ -141,29 +142,29 @@ module _ {h : Hot} {xs : List ℕ} {p : ℕ} where
       (becomes g endifRule p _ d (opened xs d) xs (rw (g .place)) (sym (length-opened xs d)) (sym (over-same xs d (omega arith))))
 
   -- ENDLOOP, the loop closes
-  pub done-one : (d : ℕ) → Begun h xs d p → (d ≡ 0 → ⊥) → bitOr (h .active) (getD xs (6 * (d - 1) + 4) 0) ≡ 0
-      → Does endloopRule h xs (hotAt h p (getD xs (6 * (d - 1) + 3) 0) (d - 1)) xs
+  pub done-one : (d : ℕ) → Begun h xs d p → (d ≡ 0 → ⊥) → bitOr (h .active) (getD xs (blockNumbers * (d - 1) + 4) 0) ≡ 0
+      → Does endloopRule h xs (hotAt h p (getD xs (blockNumbers * (d - 1) + 3) 0) (d - 1)) xs
   done-one zero g n o = absurd (n refl)
   done-one (suc d) g n o =
       let l = room g in
       let z : suc d - 1 ≡ d = omega arith in
-      let none : bitOr (h .active) (getD xs (6 * d + 4) 0) ≡ 0 = rw z at o in
+      let none : bitOr (h .active) (getD xs (blockNumbers * d + 4) 0) ≡ 0 = rw z at o in
       rw z
       (becomes g endloopRule p _ d (opened xs d) xs (rw (g .place, none)) (sym (length-opened xs d)) (sym (over-same xs d (omega arith))))
 
   -- ENDLOOP, it goes round
-  pub round-one : (d r : ℕ) → Begun h xs d p → (d ≡ 0 → ⊥) → (bitOr (h .active) (getD xs (6 * (d - 1) + 4) 0) ≡ 0 → ⊥)
-      → r ≡ next (getD xs (6 * (d - 1) + 1) 0)
-      → Does endloopRule h xs (hotAt h r (bitOr (h .active) (getD xs (6 * (d - 1) + 4) 0)) d) (set xs (6 * (d - 1) + 4) 0)
+  pub round-one : (d r : ℕ) → Begun h xs d p → (d ≡ 0 → ⊥) → (bitOr (h .active) (getD xs (blockNumbers * (d - 1) + 4) 0) ≡ 0 → ⊥)
+      → r ≡ next (getD xs (blockNumbers * (d - 1) + 1) 0)
+      → Does endloopRule h xs (hotAt h r (bitOr (h .active) (getD xs (blockNumbers * (d - 1) + 4) 0)) d) (set xs (blockNumbers * (d - 1) + 4) 0)
   round-one zero r g n o y = absurd (n refl)
   round-one (suc d) r g n o y =
       let l = room g in
       let z : suc d - 1 ≡ d = omega arith in
-      let back : r ≡ next (getD xs (6 * d + 1) 0) = rw z at y in
-      let some : bitOr (h .active) (getD xs (6 * d + 4) 0) ≡ 0 → ⊥ = rw z at o in
+      let back : r ≡ next (getD xs (blockNumbers * d + 1) 0) = rw z at y in
+      let some : bitOr (h .active) (getD xs (blockNumbers * d + 4) 0) ≡ 0 → ⊥ = rw z at o in
       rw z
       (becomes g endloopRule r _ (suc d) (wentRound (blockAt xs d) ∷ opened xs d) _ (rw (back, ne-eqb _ _ some)) (ap suc (sym (length-opened xs d)))
-      (rw (set-number xs d l (6 * d + 4) 4 0 refl) (sym (over-top xs d l _))))
+      (rw (set-number xs d l (blockNumbers * d + 4) 4 0 refl) (sym (over-top xs d l _))))
 
 -- ---- HALT: the lanes t have left every open block
 pub halted-all : {h : Hot} {xs : List ℕ} {d p : ℕ} → Begun h xs d p → (a t : ℕ) (ys : List ℕ) → a ≡ without (h .active) t
@@ -173,26 +174,23 @@ pub halted-all : {h : Hot} {xs : List ℕ} {d p : ℕ} → Begun h xs d p → (a
 halted-all {xs = xs} {d = d} g a t ys e y = rw (g .place, e, y, ← g .depth, length-map, length-opened xs d)
 
 -- ---- BREAK, CONTINUE: the lanes t have left the blocks inside the loop numbered l, in ys, and joined its number j, in zs
-module _ (f : Block → Block) (t j : ℕ) (makes : (b : Block) (rest : List ℕ) → set (six b rest) j (bitOr (getD (six b rest) j 0) t) ≡ six (f b) rest) where
-  abbrev asideRule : Wave → Wave
-  asideRule w = goes (next (w .place)) (without (w .active) t) (toLoop f t (w .path)) w
-
-  over-loop : (k : Block → Block) (xs : List ℕ) (d : ℕ) → over (toLoop k t (opened xs d)) xs ≡ laid (toLoop k t (opened xs d)) (drop (6 * d) xs)
+module _ (f : Block → Block) (t j : ℕ) (makes : Joins f t j) where
+  over-loop : (k : Block → Block) (xs : List ℕ) (d : ℕ) → over (toLoop k t (opened xs d)) xs ≡ laid (toLoop k t (opened xs d)) (drop (blockNumbers * d) xs)
   over-loop k xs d = rw (length-toLoop k t (opened xs d), length-opened xs d)
 
   pub set-aside : {h : Hot} {xs : List ℕ} {d p : ℕ} → Begun h xs d p → (a l : ℕ) (ys zs : List ℕ) → a ≡ without (h .active) t
       → l ≡ loopAt (opened xs (min (h .depth) nesting))
       → ys ≡ over (toLoop same t (opened xs (min (h .depth) nesting))) xs
-      → zs ≡ set ys (6 * l + j) (bitOr (getD ys (6 * l + j) 0) t)
-      → Does asideRule h xs (hotAt h p a d) zs
+      → zs ≡ set ys (blockNumbers * l + j) (bitOr (getD ys (blockNumbers * l + j) 0) t)
+      → Does (asideRule f t) h xs (hotAt h p a d) zs
   set-aside {h} {xs} {d} {p} g a l ys zs e n y z =
       let at : l ≡ loopAt (opened xs d) = rw (← g .depth) at n in
-      let left : ys ≡ laid (toLoop same t (opened xs d)) (drop (6 * d) xs) = rw (← g .depth) at y ∙ over-loop same xs d in
-      let joined : zs ≡ laid (toLoop f t (opened xs d)) (drop (6 * d) xs) =
+      let left : ys ≡ laid (toLoop same t (opened xs d)) (drop (blockNumbers * d) xs) = rw (← g .depth) at y ∙ over-loop same xs d in
+      let joined : zs ≡ laid (toLoop f t (opened xs d)) (drop (blockNumbers * d) xs) =
       z ∙ rw (left, at)
-      (aside-at f t j makes (opened xs d) (drop (6 * d) xs)
-      (omega (arith, length-opened xs d, length-drop (6 * d) xs, g .long, g .depth, min-le-right (h .depth) nesting))) in
-      becomes g asideRule p _ d (toLoop f t (opened xs d)) zs (rw (g .place, e)) (sym (length-toLoop f t (opened xs d) ∙ length-opened xs d))
+      (aside-at f t j makes (opened xs d) (drop (blockNumbers * d) xs)
+      (omega (arith, length-opened xs d, length-drop (blockNumbers * d) xs, g .long, g .depth, min-le-right (h .depth) nesting))) in
+      becomes g (asideRule f t) p _ d (toLoop f t (opened xs d)) zs (rw (g .place, e)) (sym (length-toLoop f t (opened xs d) ∙ length-opened xs d))
       (joined ∙ sym (over-loop f xs d))
 
 -- ---- BARRIER

@@ -10,8 +10,8 @@ use lib.Seq.{take-suc-set, take-all, take-at}
 use Rattle.wave.specs.declared.state.Block.{Block}
 use Rattle.wave.specs.declared.state.Hot.{Hot}
 use Rattle.blocks.specs.Scan.{nesting}
-use Rattle.wave.specs.Layout.{blockNumbers, pathNumbers, six, laid, opened, arrayOf}
-use Rattle.wave.specs.Wave.{waveOf, predsOf, hotOf, held}
+use Rattle.wave.specs.Layout.{blockNumbers, pathNumbers, six, laid, opened}
+use Rattle.wave.specs.Wave.{held, tidied}
 use Rattle.wave.proofs.Laying.{length-laid, length-opened, laid-opened}
 use Rattle.wave.proofs.Ruling.{hotAt}
 
@@ -37,14 +37,14 @@ laid-append (b ∷ p) q r = laid-append p (six b q) r
 
 laid-take : (xs : List ℕ) (n : ℕ) → blockNumbers * n ≤ length xs → laid (opened xs n) [] ≡ take (blockNumbers * n) xs
 laid-take xs n h =
-    sym (take-at (laid (opened xs n) []) (drop (6 * n) xs) (6 * n) (length-laid (opened xs n) [] ∙ omega (arith, length-opened xs n)))
-    ∙ ap (take (6 * n)) (sym (laid-append (opened xs n) [] (drop (6 * n) xs)) ∙ laid-opened xs n h)
+    sym (take-at (laid (opened xs n) []) (drop (blockNumbers * n) xs) (blockNumbers * n) (length-laid (opened xs n) [] ∙ omega (arith, length-opened xs n)))
+    ∙ ap (take (blockNumbers * n)) (sym (laid-append (opened xs n) [] (drop (blockNumbers * n) xs)) ∙ laid-opened xs n h)
 
 -- a tidy array is its wave's own
-pub tidied : (h : Hot) (xs ys : List ℕ) (d : ℕ) → d ≡ min (h .depth) nesting → length xs ≡ pathNumbers → ys ≡ wiped (blockNumbers * d) xs
-    → held (hotAt h (h .place) (h .active) d) ys ≡ held (hotOf (waveOf h xs) (predsOf h)) (arrayOf (waveOf h xs .path))
-tidied h xs ys d e l y =
-    let w : wiped (6 * d) xs ≡ laid (opened xs d) (replicate (pathNumbers - 6 * d) 0) =
-    ap (λ (t : List ℕ). t ++ replicate (pathNumbers - 6 * d) 0) (sym (laid-take xs d (omega (arith, min-le-right (h .depth) nesting))))
-    ∙ sym (laid-append (opened xs d) [] (replicate (pathNumbers - 6 * d) 0)) in
+pub tidy-end : (h : Hot) (xs ys : List ℕ) (d : ℕ) → d ≡ min (h .depth) nesting → length xs ≡ pathNumbers → ys ≡ wiped (blockNumbers * d) xs
+    → held (hotAt h (h .place) (h .active) d) ys ≡ tidied h xs
+tidy-end h xs ys d e l y =
+    let w : wiped (blockNumbers * d) xs ≡ laid (opened xs d) (replicate (pathNumbers - blockNumbers * d) 0) =
+    ap (λ (t : List ℕ). t ++ replicate (pathNumbers - blockNumbers * d) 0) (sym (laid-take xs d (omega (arith, min-le-right (h .depth) nesting))))
+    ∙ sym (laid-append (opened xs d) [] (replicate (pathNumbers - blockNumbers * d) 0)) in
     rw (y, w, ← e, length-opened xs d)

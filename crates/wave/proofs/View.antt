@@ -1,9 +1,9 @@
 -- The wave that a rule leaves is the wave that is read next: a path of at most 32 blocks that was laid out is read again, and no control
 -- rule makes a path longer than that.
-use mathlib.Core.Path.{_≡_, refl, ap, _∙_}
+use mathlib.Core.Path.{_≡_, ap, _∙_}
 use mathlib.Core.Bool.{Bool, true, false, cond}
 use mathlib.Core.List.{List, [], _∷_}
-use Prim.Native.Nat.{ℕ, _+_, _≤_, _<_, min}
+use Prim.Native.Nat.{ℕ, _≤_, _<_, min}
 use native.Mathlib.Nat.{min-le-right, min-eq-left}
 use native.Mathlib.Omega.{arith}
 use native.Mathlib.Decide.{decLt}
@@ -15,10 +15,9 @@ use Rattle.words.specs.declared.instr.ControlOp.{ControlOp}
 use Rattle.words.specs.declared.instr.ControlOp.the-variants.{If, Else, Endif, Loop, Break, Continue, Endloop, Halt, Barrier, Nop}
 use Rattle.wave.specs.declared.state.Block.{Block}
 use Rattle.wave.specs.declared.state.Hot.{Hot}
-use Rattle.wave.specs.declared.state.State.{State}
 use Rattle.wave.specs.declared.rules.Stepped.{Stepped}
 use Rattle.blocks.specs.Scan.{nesting}
-use Rattle.wave.specs.Layout.{pathNumbers, opened, over}
+use Rattle.wave.specs.Layout.{pathNumbers, over}
 use Rattle.wave.specs.Wave.{Wave, Preds, hotOf, waveOf, predsOf, stateOf, waveIn}
 use Rattle.wave.specs.Rules.{onward, opens, elseOn, endifOn, endloopOn, barred, broken, continued}
 use Rattle.wave.specs.Control.{controlRule, faultLanes, controlOf, Given, given}

@@ -1,6 +1,6 @@
 -- The walks outward over the open blocks: what is left to walk from here gives the same as the whole walk. One is HALT's, over every block;
 -- the other is the search for the innermost loop, after which the lanes join one of the loop's numbers.
-use mathlib.Core.Path.{_≡_, refl, ap, sym, _∙_}
+use mathlib.Core.Path.{_≡_, refl, ap, sym}
 use mathlib.Core.Bool.{Bool, true, false, cond}
 use mathlib.Core.List.{List, [], _∷_, map}
 use Prim.Native.Nat.{ℕ, zero, suc, _+_, _-_, _*_, _≤_, _<_}
@@ -9,94 +9,93 @@ use borrow.Author.Tests.{eq-eqb, ne-eqb}
 use lib.ListN.{length, getD, set, drop}
 use lib.Seq.{getD-set-other, drop-set-add, set-out}
 use lib.Bits.{bitOr}
-use lib.Dec.{eqb}
 use Rattle.wave.specs.declared.state.Block.{Block}
 use Rattle.blocks.specs.Scan.{nesting}
-use Rattle.wave.specs.Layout.{pathNumbers, six, laid, blockAt, opened, over}
+use Rattle.wave.specs.Layout.{blockNumbers, pathNumbers, six, laid, blockAt, opened, over}
 use Rattle.wave.specs.Rules.{leave, toLoop, isLoop}
-use Rattle.wave.specs.Search.{loopAt, same}
+use Rattle.wave.specs.Search.{loopAt, same, Joins}
 use Rattle.wave.proofs.Laying.{length-opened, laid-opened, drop-six, set-laid, getD-laid}
 
 -- ---- a walk outward over the first i blocks: f of them, and the rest as it is
 abbrev pub walked : (List Block → List Block) → ℕ → List ℕ → List ℕ
-walked f i xs = laid (f (opened xs i)) (drop (6 * i) xs)
+walked f i xs = laid (f (opened xs i)) (drop (blockNumbers * i) xs)
 
 -- what stands below a store is not touched
-pub opened-set : (xs : List ℕ) (k v n : ℕ) → 6 * n ≤ k → opened (set xs k v) n ≡ opened xs n
+pub opened-set : (xs : List ℕ) (k v n : ℕ) → blockNumbers * n ≤ k → opened (set xs k v) n ≡ opened xs n
 opened-set xs k v zero h = refl
 opened-set xs k v (suc n) h =
     rw (
-      getD-set-other xs k (6 * n) v 0 (omega arith),
-      getD-set-other xs k (6 * n + 1) v 0 (omega arith),
-      getD-set-other xs k (6 * n + 2) v 0 (omega arith),
-      getD-set-other xs k (6 * n + 3) v 0 (omega arith),
-      getD-set-other xs k (6 * n + 4) v 0 (omega arith),
-      getD-set-other xs k (6 * n + 5) v 0 (omega arith),
+      getD-set-other xs k (blockNumbers * n) v 0 (omega arith),
+      getD-set-other xs k (blockNumbers * n + 1) v 0 (omega arith),
+      getD-set-other xs k (blockNumbers * n + 2) v 0 (omega arith),
+      getD-set-other xs k (blockNumbers * n + 3) v 0 (omega arith),
+      getD-set-other xs k (blockNumbers * n + 4) v 0 (omega arith),
+      getD-set-other xs k (blockNumbers * n + 5) v 0 (omega arith),
       opened-set xs k v n (omega arith),
     )
 
 -- a store into the block that the walk comes to
-walked-set : (f : List Block → List Block) (xs : List ℕ) (j m v : ℕ) → 6 * suc j ≤ length xs
-    → walked f j (set xs (6 * j + m) v) ≡ laid (f (opened xs j)) (set (six (blockAt xs j) (drop (6 * suc j) xs)) m v)
+walked-set : (f : List Block → List Block) (xs : List ℕ) (j m v : ℕ) → blockNumbers * suc j ≤ length xs
+    → walked f j (set xs (blockNumbers * j + m) v) ≡ laid (f (opened xs j)) (set (six (blockAt xs j) (drop (blockNumbers * suc j) xs)) m v)
 walked-set f xs j m v h =
-    rw (opened-set xs (6 * j + m) v j (omega arith), drop-set-add (6 * j) xs m v, drop-six xs j h)
+    rw (opened-set xs (blockNumbers * j + m) v j (omega arith), drop-set-add (blockNumbers * j) xs m v, drop-six xs j h)
 
 -- the lanes t leave it
-pub walk-leave : (t : ℕ) (xs : List ℕ) (i : ℕ) → 0 < i → 6 * i ≤ length xs
-    → walked (map (leave t)) (i - 1) (set xs (6 * (i - 1) + 5) (bitOr (getD xs (6 * (i - 1) + 5) 0) t)) ≡ walked (map (leave t)) i xs
+pub walk-leave : (t : ℕ) (xs : List ℕ) (i : ℕ) → 0 < i → blockNumbers * i ≤ length xs
+    → walked (map (leave t)) (i - 1) (set xs (blockNumbers * (i - 1) + 5) (bitOr (getD xs (blockNumbers * (i - 1) + 5) 0) t)) ≡ walked (map (leave t)) i xs
 walk-leave t xs zero h l = absurd (omega arith)
 walk-leave t xs (suc j) h l =
     let e : suc j - 1 ≡ j = omega arith in
-    rw e (walked-set (map (leave t)) xs j 5 (bitOr (getD xs (6 * j + 5) 0) t) l)
+    rw e (walked-set (map (leave t)) xs j 5 (bitOr (getD xs (blockNumbers * j + 5) 0) t) l)
 
 -- no loop: the lanes t leave it, and the search goes on
-pub walk-past : (t : ℕ) (xs : List ℕ) (i : ℕ) → 0 < i → 6 * i ≤ length xs → (getD xs (6 * (i - 1)) 0 ≡ 3 → ⊥)
-    → walked (toLoop same t) (i - 1) (set xs (6 * (i - 1) + 5) (bitOr (getD xs (6 * (i - 1) + 5) 0) t)) ≡ walked (toLoop same t) i xs
+pub walk-past : (t : ℕ) (xs : List ℕ) (i : ℕ) → 0 < i → blockNumbers * i ≤ length xs → (getD xs (blockNumbers * (i - 1)) 0 ≡ 3 → ⊥)
+    → walked (toLoop same t) (i - 1) (set xs (blockNumbers * (i - 1) + 5) (bitOr (getD xs (blockNumbers * (i - 1) + 5) 0) t)) ≡ walked (toLoop same t) i xs
 walk-past t xs zero h l n = absurd (omega arith)
 walk-past t xs (suc j) h l n =
     let e : suc j - 1 ≡ j = omega arith in
-    let m : getD xs (6 * j) 0 ≡ 3 → ⊥ = rw e at n in
-    rw (e, ne-eqb (getD xs (6 * j) 0) 3 m) (walked-set (toLoop same t) xs j 5 (bitOr (getD xs (6 * j + 5) 0) t) l)
+    let m : getD xs (blockNumbers * j) 0 ≡ 3 → ⊥ = rw e at n in
+    rw (e, ne-eqb (getD xs (blockNumbers * j) 0) 3 m) (walked-set (toLoop same t) xs j 5 (bitOr (getD xs (blockNumbers * j + 5) 0) t) l)
 
-pub number-past : (xs : List ℕ) (v i : ℕ) → 0 < i → (getD xs (6 * (i - 1)) 0 ≡ 3 → ⊥)
-    → loopAt (opened (set xs (6 * (i - 1) + 5) v) (i - 1)) ≡ loopAt (opened xs i)
+pub number-past : (xs : List ℕ) (v i : ℕ) → 0 < i → (getD xs (blockNumbers * (i - 1)) 0 ≡ 3 → ⊥)
+    → loopAt (opened (set xs (blockNumbers * (i - 1) + 5) v) (i - 1)) ≡ loopAt (opened xs i)
 number-past xs v zero h n = absurd (omega arith)
 number-past xs v (suc j) h n =
     let e : suc j - 1 ≡ j = omega arith in
-    let m : getD xs (6 * j) 0 ≡ 3 → ⊥ = rw e at n in
-    rw (e, ne-eqb (getD xs (6 * j) 0) 3 m, opened-set xs (6 * j + 5) v j (omega arith))
+    let m : getD xs (blockNumbers * j) 0 ≡ 3 → ⊥ = rw e at n in
+    rw (e, ne-eqb (getD xs (blockNumbers * j) 0) 3 m, opened-set xs (blockNumbers * j + 5) v j (omega arith))
 
 -- a loop: the search ends
-pub walk-at : (t : ℕ) (xs : List ℕ) (i : ℕ) → 0 < i → 6 * i ≤ length xs → getD xs (6 * (i - 1)) 0 ≡ 3 → xs ≡ walked (toLoop same t) i xs
+pub walk-at : (t : ℕ) (xs : List ℕ) (i : ℕ) → 0 < i → blockNumbers * i ≤ length xs → getD xs (blockNumbers * (i - 1)) 0 ≡ 3 → xs ≡ walked (toLoop same t) i xs
 walk-at t xs zero h l n = absurd (omega arith)
 walk-at t xs (suc j) h l n =
     let e : suc j - 1 ≡ j = omega arith in
-    let m : getD xs (6 * j) 0 ≡ 3 = rw e at n in
-    rw (eq-eqb (getD xs (6 * j) 0) 3 m) (sym (laid-opened xs (suc j) l))
+    let m : getD xs (blockNumbers * j) 0 ≡ 3 = rw e at n in
+    rw (eq-eqb (getD xs (blockNumbers * j) 0) 3 m) (sym (laid-opened xs (suc j) l))
 
-pub number-at : (xs : List ℕ) (i : ℕ) → 0 < i → getD xs (6 * (i - 1)) 0 ≡ 3 → i - 1 ≡ loopAt (opened xs i)
+pub number-at : (xs : List ℕ) (i : ℕ) → 0 < i → getD xs (blockNumbers * (i - 1)) 0 ≡ 3 → i - 1 ≡ loopAt (opened xs i)
 number-at xs zero h n = absurd (omega arith)
 number-at xs (suc j) h n =
     let e : suc j - 1 ≡ j = omega arith in
-    let m : getD xs (6 * j) 0 ≡ 3 = rw e at n in
-    rw (e, eq-eqb (getD xs (6 * j) 0) 3 m) (sym (length-opened xs j))
+    let m : getD xs (blockNumbers * j) 0 ≡ 3 = rw e at n in
+    rw (e, eq-eqb (getD xs (blockNumbers * j) 0) 3 m) (sym (length-opened xs j))
 
 -- ---- the loop that was found, once the lanes t have left the blocks inside it: they join its number j, which makes it f of itself
-module _ (f : Block → Block) (t j : ℕ) (makes : (b : Block) (rest : List ℕ) → set (six b rest) j (bitOr (getD (six b rest) j 0) t) ≡ six (f b) rest) where
+module _ (f : Block → Block) (t j : ℕ) (makes : Joins f t j) where
   at-block : (b : Block) (p : List Block) (rest : List ℕ) (c : Bool)
-      → set (laid (toLoop same t p) (six (leave t b) rest)) (6 * loopAt p + j) (bitOr (getD (laid (toLoop same t p) (six (leave t b) rest)) (6 * loopAt p + j) 0) t)
+      → set (laid (toLoop same t p) (six (leave t b) rest)) (blockNumbers * loopAt p + j) (bitOr (getD (laid (toLoop same t p) (six (leave t b) rest)) (blockNumbers * loopAt p + j) 0) t)
       ≡ laid (toLoop f t p) (six (leave t b) rest)
-      → set (laid (cond c (b ∷ p) (leave t b ∷ toLoop same t p)) rest) (6 * cond c (length p) (loopAt p) + j)
-      (bitOr (getD (laid (cond c (b ∷ p) (leave t b ∷ toLoop same t p)) rest) (6 * cond c (length p) (loopAt p) + j) 0) t)
+      → set (laid (cond c (b ∷ p) (leave t b ∷ toLoop same t p)) rest) (blockNumbers * cond c (length p) (loopAt p) + j)
+      (bitOr (getD (laid (cond c (b ∷ p) (leave t b ∷ toLoop same t p)) rest) (blockNumbers * cond c (length p) (loopAt p) + j) 0) t)
       ≡ laid (cond c (f b ∷ p) (leave t b ∷ toLoop f t p)) rest
   at-block b p rest true ih =
-      rw (getD-laid p (six b rest) (6 * length p + j) j refl, set-laid p (six b rest) (6 * length p + j) j (bitOr (getD (six b rest) j 0) t) refl, makes b rest)
+      rw (getD-laid p (six b rest) (blockNumbers * length p + j) j refl, set-laid p (six b rest) (blockNumbers * length p + j) j (bitOr (getD (six b rest) j 0) t) refl, makes b rest)
   at-block b p rest false ih = ih
 
-  pub aside-at : (p : List Block) (rest : List ℕ) → 6 * length p + length rest ≤ pathNumbers
-      → set (laid (toLoop same t p) rest) (6 * loopAt p + j) (bitOr (getD (laid (toLoop same t p) rest) (6 * loopAt p + j) 0) t)
+  pub aside-at : (p : List Block) (rest : List ℕ) → blockNumbers * length p + length rest ≤ pathNumbers
+      → set (laid (toLoop same t p) rest) (blockNumbers * loopAt p + j) (bitOr (getD (laid (toLoop same t p) rest) (blockNumbers * loopAt p + j) 0) t)
       ≡ laid (toLoop f t p) rest
-  aside-at [] rest l = set-out rest (6 * nesting + j) _ (omega arith)
+  aside-at [] rest l = set-out rest (blockNumbers * nesting + j) _ (omega arith)
   aside-at (b ∷ p) rest l = at-block b p rest (isLoop b) (aside-at p (six (leave t b) rest) (omega arith))
 
 pub length-toLoop : (f : Block → Block) (t : ℕ) (p : List Block) → length (toLoop f t p) ≡ length p

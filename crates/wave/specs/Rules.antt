@@ -112,12 +112,17 @@ endifRule w = endifOn (w .path) w
 abbrev pub loopRule : Wave → Wave
 loopRule w = goes (next (w .place)) (w .active) (opens (opening loopPart (w .place) (w .active) 0) (w .path)) w
 
--- BREAK, CONTINUE: t becomes inactive and is set aside in the innermost open loop, as broken or as continued
-abbrev pub breakRule : ℕ → Wave → Wave
-breakRule t w = goes (next (w .place)) (without (w .active) t) (toLoop (broken t) t (w .path)) w
+-- BREAK, CONTINUE: t becomes inactive and is set aside in the innermost open loop,
+abbrev pub asideRule : (Block → Block) → ℕ → Wave → Wave
+asideRule f t w = goes (next (w .place)) (without (w .active) t) (toLoop f t (w .path)) w
 
+-- as broken
+abbrev pub breakRule : ℕ → Wave → Wave
+breakRule t w = asideRule (broken t) t w
+
+-- or as continued
 abbrev pub continueRule : ℕ → Wave → Wave
-continueRule t w = goes (next (w .place)) (without (w .active) t) (toLoop (continued t) t (w .path)) w
+continueRule t w = asideRule (continued t) t w
 
 -- ENDLOOP: continued lanes join the active ones. If any is active, go to the word after LOOP, with none continued. Otherwise the
 -- loop closes and its broken lanes become active

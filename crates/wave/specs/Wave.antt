@@ -66,6 +66,10 @@ pub record Held : Type 0 where
 abbrev pub held : Hot → List ℕ → Held
 held h xs = record { hot = h; numbers = xs }
 
+-- the same wave in numbers that it alone decides, zero past its open blocks
+abbrev pub tidied : Hot → List ℕ → Held
+tidied h xs = held (hotOf (waveOf h xs) (predsOf h)) (arrayOf (waveOf h xs .path))
+
 -- what a rule makes of it: the wave after the rule with the same predicates, its path laid over the array
 abbrev pub after : (Wave → Wave) → Hot → List ℕ → Held
 after f h xs = held (hotOf (f (waveOf h xs)) (predsOf h)) (over (f (waveOf h xs) .path) xs)

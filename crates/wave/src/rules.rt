@@ -1,5 +1,5 @@
-// The control rules, each on the hot numbers by value and the lent open blocks. Where a rule finds no block to work on, or no room for one
-// more, it only goes on to the next place.
+// The control rules, each on the hot numbers by value and the lent open blocks. Where checked code would not let an instruction stand the
+// rules are total all the same: with no block to work on a rule goes on to the next place, and with no room for one more it opens none.
 use crate::state::Hot;
 use lanes::Lanes;
 

@@ -4,8 +4,8 @@ ghost use mathlib.Core.Path.{_≡_};
 ghost use Prim.Native.Nat.{min};
 ghost use lib.ListN.{length};
 ghost use Rattle.blocks.specs.Scan.{nesting};
-ghost use Rattle.wave.specs.Layout.{pathNumbers, arrayOf};
-ghost use Rattle.wave.specs.Wave.{waveOf, predsOf, hotOf, held};
+ghost use Rattle.wave.specs.Layout.{pathNumbers};
+ghost use Rattle.wave.specs.Wave.{held, tidied};
 
 // The room for nesting: no more blocks are open.
 pub const NESTING: u32 = 32;
@@ -67,13 +67,14 @@ pub fn depth_of(depth: u32) -> u32
     if depth < NESTING { depth } else { NESTING }
 }
 
+// How many numbers were lent.
 fn len_of(words: &[u32]) -> usize
     ensures { λ r. ⌜ r ≡ length (now (words .entry)) ⌝ }
 {
     words.len()
 }
 
-// Says nothing to the run: it tells a proof how long the array of open blocks is.
+// Does nothing where it runs: it tells its caller's proof how long the array of open blocks is.
 pub fn whole(bl: &[u32; PATH_NUMBERS])
     ensures { λ r. ⌜ length (now (bl .entry)) ≡ pathNumbers ⌝ }
 {
@@ -82,7 +83,7 @@ pub fn whole(bl: &[u32; PATH_NUMBERS])
 
 // The numbers past the open blocks become zero, and a depth over 32 becomes 32, so that every number of the state is fixed by its wave.
 pub fn tidy(h: Hot, bl: &mut [u32; PATH_NUMBERS]) -> Hot
-    ensures { λ r. ⌜ held r (now (bl .exit)) ≡ held (hotOf (waveOf h (now (bl .entry))) (predsOf h)) (arrayOf (waveOf h (now (bl .entry)) .path)) ⌝ }
+    ensures { λ r. ⌜ held r (now (bl .exit)) ≡ tidied h (now (bl .entry)) ⌝ }
 {
     whole(bl);
     let d = depth_of(h.depth);

@@ -13,14 +13,15 @@ use crate::state::whole;
 use lanes::Lanes;
 use lanes::without;
 ghost use mathlib.Core.Path.{_≡_};
-ghost use Prim.Native.Nat.{min};
+ghost use Prim.Native.Nat.{_<_, min};
 ghost use lib.ListN.{set, getD};
 ghost use lib.Bits.{bitOr};
+ghost use Rattle.wave.specs.declared.state.Block.{Block};
 ghost use Rattle.blocks.specs.Scan.{nesting};
-ghost use Rattle.wave.specs.Layout.{opened, over};
+ghost use Rattle.wave.specs.Layout.{blockNumbers, opened, over};
 ghost use Rattle.wave.specs.Wave.{Does};
-ghost use Rattle.wave.specs.Rules.{breakRule, continueRule, toLoop};
-ghost use Rattle.wave.specs.Search.{loopAt, same};
+ghost use Rattle.wave.specs.Rules.{asideRule, breakRule, continueRule, toLoop};
+ghost use Rattle.wave.specs.Search.{loopAt, same, Joins};
 
 // The outward search through open blocks: the lanes t leave each block inside the innermost loop, whose number is the answer; 32 where no
 // loop is open.
@@ -54,13 +55,14 @@ fn join_number(k: usize, t: Lanes, bl: &mut [u32; PATH_NUMBERS])
     }
 }
 
-// BREAK: the lanes t are set aside in the innermost open loop, as broken.
-pub(crate) fn break_out(h: Hot, t: Lanes, bl: &mut [u32; PATH_NUMBERS]) -> Hot
-    ensures { λ r. ⌜ Does (breakRule t) h (now (bl .entry)) r (now (bl .exit)) ⌝ }
+// The lanes t leave the active ones, and join a number of the innermost open loop; f is what that makes of the loop.
+fn set_aside(h: Hot, t: Lanes, number: usize, bl: &mut [u32; PATH_NUMBERS]) -> Hot
+    requires { ⌜ number < blockNumbers ⌝ }
+    ensures { λ r. ⌜ ((f : Block → Block) → Joins f t number → Does (asideRule f t) h (now (bl .entry)) r (now (bl .exit))) ⌝ }
 {
     whole(bl);
     let l = leave_inner(h.depth, t, bl);
-    let k = BLOCK_NUMBERS * (l as usize) + ASIDE;
+    let k = BLOCK_NUMBERS * (l as usize) + number;
     join_number(k, t, bl);
     let mut n = h;
     n.place = after_place(h.place);
@@ -69,17 +71,16 @@ pub(crate) fn break_out(h: Hot, t: Lanes, bl: &mut [u32; PATH_NUMBERS]) -> Hot
     n
 }
 
+// BREAK: the lanes t are set aside in the innermost open loop, as broken.
+pub(crate) fn break_out(h: Hot, t: Lanes, bl: &mut [u32; PATH_NUMBERS]) -> Hot
+    ensures { λ r. ⌜ Does (breakRule t) h (now (bl .entry)) r (now (bl .exit)) ⌝ }
+{
+    set_aside(h, t, ASIDE, bl)
+}
+
 // CONTINUE: the lanes t are set aside in the innermost open loop, as continued.
 pub(crate) fn go_on(h: Hot, t: Lanes, bl: &mut [u32; PATH_NUMBERS]) -> Hot
     ensures { λ r. ⌜ Does (continueRule t) h (now (bl .entry)) r (now (bl .exit)) ⌝ }
 {
-    whole(bl);
-    let l = leave_inner(h.depth, t, bl);
-    let k = BLOCK_NUMBERS * (l as usize) + AGAIN;
-    join_number(k, t, bl);
-    let mut n = h;
-    n.place = after_place(h.place);
-    n.active = without(h.active, t);
-    n.depth = depth_of(h.depth);
-    n
+    set_aside(h, t, AGAIN, bl)
 }

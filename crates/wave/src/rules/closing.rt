@@ -9,7 +9,6 @@ use crate::state::OPENER;
 use crate::state::PATH_NUMBERS;
 use crate::state::depth_of;
 use crate::state::whole;
-ghost use mathlib.Core.Path.{_≡_};
 ghost use Rattle.wave.specs.Wave.{Does};
 ghost use Rattle.wave.specs.Rules.{elseRule, endifRule, endloopRule};
 

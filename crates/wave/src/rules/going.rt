@@ -7,7 +7,7 @@ ghost use mathlib.Core.Path.{_≡_};
 ghost use mathlib.Core.List.{List};
 ghost use Prim.Native.Nat.{ℕ};
 ghost use Rattle.wave.specs.Wave.{waveOf, predsOf, hotOf, Does};
-ghost use Rattle.wave.specs.Rules.{next, onBy, onwardBy, onward};
+ghost use Rattle.wave.specs.Rules.{next, onwardBy, onward};
 
 // The place after this one; 0 after the largest.
 pub(crate) fn after_place(place: u32) -> u32

@@ -8,7 +8,6 @@ use crate::state::depth_of;
 use crate::state::whole;
 use lanes::Lanes;
 use lanes::without;
-ghost use mathlib.Core.Path.{_≡_};
 ghost use Rattle.wave.specs.Wave.{Does};
 ghost use Rattle.wave.specs.Rules.{haltRule};
 

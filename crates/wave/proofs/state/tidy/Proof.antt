@@ -6,7 +6,7 @@ use native.Mathlib.Omega.{arith}
 use lib.ListN.{length, length-set}
 use Rattle.blocks.specs.Scan.{nesting}
 use Rattle.wave.specs.Layout.{pathNumbers}
-use Rattle.wave.proofs.Tidying.{wiped, wipe-more, wipe-end, tidied}
+use Rattle.wave.proofs.Tidying.{wiped, wipe-more, wipe-end, tidy-end}
 use Rattle.wave.proofs.state.tidy.Statement.{statement}
 use Rattle.wave.proofs.state.tidy.Tie as tie
 
@@ -50,7 +50,7 @@ loop-again c = let l = c .before .loop in
 returns : tie.Need-returns Inv-loop μ-loop
 returns c = let l = c .before .loop in
     let s = c .before .before .before .before .before .args in
-    tidied (s .h) (s .bl .now) (l .bl) _ (c .before .before .depth-of .ensures) (c .before .before .before .whole .ensures)
+    tidy-end (s .h) (s .bl .now) (l .bl) _ (c .before .before .depth-of .ensures) (c .before .before .before .whole .ensures)
     (wipe-end (l .k) (l .bl) (omega arith) (omega arith) (l .inv .1) ∙ l .inv .2)
 
 pub tidy-spec : {M : Type 1} → statement M

@@ -1,56 +1,15 @@
--- CONTINUE: the search marks the blocks inside the loop, and one store sets the lanes aside in it, as continued.
+-- CONTINUE sets lanes aside as continued.
 use mathlib.Core.Path.{refl}
 use Rattle.wave.specs.Rules.{continued}
-use Rattle.wave.proofs.Ruling.{set-aside}
 use borrow.Author.Needs.{needs}
 use Rattle.wave.proofs.rules.aside.go_on.Statement.{statement}
 use Rattle.wave.proofs.rules.aside.go_on.Tie as tie
 
-whole-requires : tie.Need-whole-requires
-whole-requires c κs = search needs
-
-leave-inner-requires : tie.Need-leave-inner-requires
-leave-inner-requires c κs = search needs
-
-cast-k : tie.Need-cast-k
-cast-k c = search needs
-
-mul-k : tie.Need-mul-k
-mul-k c = search needs
-
-add-k : tie.Need-add-k
-add-k c = search needs
-
-join-number-requires : tie.Need-join-number-requires
-join-number-requires c κs = search needs
-
-after-place-requires : tie.Need-after-place-requires
-after-place-requires c κs = search needs
-
-without-requires : tie.Need-without-requires
-without-requires c κs = search needs
-
-depth-of-requires : tie.Need-depth-of-requires
-depth-of-requires c κs = search needs
+set-aside-requires : tie.Need-set-aside-requires
+set-aside-requires c κs = search needs
 
 returns : tie.Need-returns
-returns c = let s = c .before .before .before .before .before .before .before .before .before .args in
-    let found = c .before .before .before .before .before .leave-inner .ensures in
-    set-aside (continued (s .t)) (s .t) 4 (λ b rest. refl) {h = s .h}
-    (record { long = c .before .before .before .before .before .before .before .whole .ensures; depth = c .depth-of .ensures; place = c .before .before .after-place .ensures }) _ _ _ _
-    (c .before .without .ensures) (found .0) (found .1) (c .before .before .before .join-number .ensures)
+returns c = c .set-aside .ensures (continued (c .before .before .args .t)) (λ b rest. refl)
 
 pub go-on-spec : {M : Type 1} → statement M
-go-on-spec =
-    tie.close
-    (tie.spec
-    whole-requires
-    leave-inner-requires
-    cast-k
-    mul-k
-    add-k
-    join-number-requires
-    after-place-requires
-    without-requires
-    depth-of-requires
-    returns)
+go-on-spec = tie.close (tie.spec set-aside-requires returns)

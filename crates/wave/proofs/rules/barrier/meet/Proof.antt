@@ -1,6 +1,6 @@
 -- BARRIER: either the wave is as before and the active lanes are answered, or it goes one word on.
 use mathlib.Core.Path.{refl}
-use Rattle.wave.proofs.Ruling.{Begun, meet-stops, meet-goes}
+use Rattle.wave.proofs.Ruling.{meet-stops, meet-goes}
 use borrow.Author.Needs.{needs}
 use Rattle.wave.proofs.rules.barrier.meet.Statement.{statement}
 use Rattle.wave.proofs.rules.barrier.meet.Tie as tie

@@ -1,5 +1,4 @@
 -- IF: six stores put one block more above the open ones, where there is room.
-use mathlib.Core.Path.{refl}
 use Rattle.wave.specs.declared.state.Block.{Block}
 use Rattle.wave.specs.Layout.{beforeElse}
 use Rattle.wave.specs.Rules.{ifRule, opening}

@@ -1,0 +1,143 @@
+// Answers cases about bodies and day files, which lie on standard input one after another: each is three numbers of four bytes,
+// an operation, its argument and a count of bytes, and then the bytes; a count of FFFFFFFF stands for the bytes of the case before.
+//   1 AT     the length of the body at AT
+//   2 ROOM   a day file made in a buffer of ROOM bytes, all A5, and the sum of the buffer after
+//   3 I      record I of a day file
+//   4 -      the listing of a day file
+// tests/day_files.py makes the cases, and answers them from the page.
+use dayfile::answer::MakeAnswer;
+use dayfile::answer::ReadAnswer;
+use key::BodyAnswer;
+use libc::STDIN_FILENO;
+use libc::STDOUT_FILENO;
+use numbers::get;
+
+fn put_word(word: &[u8]) {
+    io::write_all(STDOUT_FILENO, word);
+}
+
+fn put_number(n: usize) {
+    io::write_all(STDOUT_FILENO, b" ");
+    io::print_decimal(STDOUT_FILENO, n as u64);
+}
+
+fn end_line() {
+    io::write_all(STDOUT_FILENO, b"\n");
+}
+
+fn put_refusal(number: u32, place: usize) {
+    put_word(b"refused");
+    put_number(number as usize);
+    put_number(place);
+}
+
+fn answer_body(bytes: &[u8], at: usize) {
+    match key::body_length(bytes, at) {
+        BodyAnswer::Length(n) => {
+            put_word(b"length");
+            put_number(n);
+        }
+        BodyAnswer::Refused(number, place) => put_refusal(number, place),
+    }
+    end_line();
+}
+
+fn answer_read(bytes: &[u8], i: usize) {
+    match dayfile::read(bytes, i) {
+        ReadAnswer::Record {
+            place,
+            length,
+            first,
+        } => {
+            put_word(b"record");
+            put_number(place);
+            put_number(length);
+            put_number(first);
+        }
+        ReadAnswer::Refused(number, place) => put_refusal(number, place),
+    }
+    end_line();
+}
+
+// The sum of a buffer's bytes, each weighed by its place, modulo 2^32.
+fn sum_of(bytes: &[u8]) -> usize {
+    let mut sum: usize = 0;
+    let mut i: usize = 0;
+    while i < bytes.len() {
+        sum = (31 * sum + wide(bytes[i])) % 4294967296;
+        i += 1;
+    }
+    sum
+}
+
+fn wide(x: u8) -> usize {
+    x as usize
+}
+
+fn answer_make(bytes: &[u8], out: &mut [u8]) {
+    match dayfile::make(bytes, out) {
+        MakeAnswer::Made(n) => {
+            put_word(b"made");
+            put_number(n);
+        }
+        MakeAnswer::Refused(number, place) => put_refusal(number, place),
+    }
+    put_number(sum_of(out));
+    end_line();
+}
+
+fn answer_make_in(bytes: &[u8], room: usize) {
+    let mut buffer = [165u8; 65536];
+    if room <= 65536 {
+        answer_make(bytes, &mut buffer[..room]);
+    }
+}
+
+fn answer_list(bytes: &[u8]) {
+    let mut text = [0u8; 160000];
+    let n = listing::list(bytes, &mut text);
+    if n <= 160000 {
+        io::write_all(STDOUT_FILENO, &text[..n]);
+    }
+}
+
+fn answer(operation: u32, argument: usize, bytes: &[u8]) {
+    match operation {
+        1 => answer_body(bytes, argument),
+        2 => answer_make_in(bytes, argument),
+        3 => answer_read(bytes, argument),
+        4 => answer_list(bytes),
+        _ => {}
+    }
+}
+
+fn answer_all(cases: &[u8]) {
+    let mut at: usize = 0;
+    let mut from: usize = 0;
+    let mut to: usize = 0;
+    while at < cases.len() {
+        let rest = cases.len() - at;
+        if rest < 12 {
+            return;
+        }
+        let operation = get(cases, at);
+        let argument = get(cases, at + 4) as usize;
+        let count = get(cases, at + 8) as usize;
+        at += 12;
+        if count != 4294967295 {
+            if rest - 12 < count {
+                return;
+            }
+            from = at;
+            to = at + count;
+            at = to;
+        }
+        answer(operation, argument, &cases[from..to]);
+    }
+}
+
+fn main() {
+    let mut cases = [0u8; 1048576];
+    let n = io::read_full(STDIN_FILENO, &mut cases);
+    answer_all(&cases[..n]);
+}

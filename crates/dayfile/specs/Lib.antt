@@ -1,0 +1,3 @@
+pub mod Day
+pub mod Make
+pub mod Read

@@ -1,0 +1,78 @@
+-- By the answer of `firsts`: the table of the records, or the line of a refusal.
+use mathlib.Core.Path.{refl, sym}
+use lib.Seq.{length-take-le}
+use Rattle.listing.proofs.Putting.{puts-same}
+use Rattle.listing.proofs.Lines.{text-long, text-table, text-refused, firsts-counted, firsts-not}
+use borrow.Author.Needs.{needs}
+use Rattle.listing.proofs.list.Statement.{statement}
+use Rattle.listing.proofs.list.Tie as tie
+
+slice-aggregate-put-text : tie.Need-slice-aggregate-put-text
+slice-aggregate-put-text c = search needs
+
+put-text-requires : tie.Need-put-text-requires
+put-text-requires c κs = search needs
+
+same-length : tie.Need-same-length
+same-length c = search needs
+
+returns : tie.Need-returns
+returns c = puts-same (text-long _ (c .before .before .before .before .before .if1 .taken)) (c .before .before .put-text .ensures)
+
+slice-aggregate-firsts : tie.Need-slice-aggregate-firsts
+slice-aggregate-firsts c = search needs
+
+firsts-requires : tie.Need-firsts-requires
+firsts-requires c κs = search needs
+
+enum-known-n : tie.Need-enum-known-n
+enum-known-n c = search needs
+
+array-share-prefix-firsts : tie.Need-array-share-prefix-firsts
+array-share-prefix-firsts c = firsts-counted _ _ (c .before .before .before .before .before .firsts2 .last .1 .0) _ refl (c .before .before .before .before .before .firsts2 .ensures) _ (c .before .before .n .given .1) .1 .0
+
+slice-aggregate-put-table : tie.Need-slice-aggregate-put-table
+slice-aggregate-put-table c = sym (length-take-le _ (c .before .before .before .before .before .before .firsts2 .last .1 .0) (firsts-counted _ _ (c .before .before .before .before .before .before .firsts2 .last .1 .0) _ refl (c .before .before .before .before .before .before .firsts2 .ensures) _ (c .before .before .before .n .given .1) .1 .0))
+
+put-table-requires : tie.Need-put-table-requires
+put-table-requires c κs = let k = firsts-counted _ _ (c .before .before .before .before .before .before .firsts2 .last .1 .0) _ refl (c .before .before .before .before .before .before .firsts2 .ensures) _ (c .before .before .before .n .given .1) in (k .0, k .1 .1)
+
+enum-known-number : tie.Need-enum-known-number
+enum-known-number c = search needs
+
+put-refusal-requires : tie.Need-put-refusal-requires
+put-refusal-requires c κs = search needs
+
+same-length-2 : tie.Need-same-length-2
+same-length-2 c = search needs
+
+returns-2 : tie.Need-returns-2
+returns-2 c = let k = firsts-counted _ _ (c .before .before .before .before .before .before .before .before .before .firsts2 .last .1 .0) _ refl (c .before .before .before .before .before .before .before .before .before .firsts2 .ensures) _ (c .before .before .before .before .before .before .n .given .1) in puts-same (text-table _ (c .before .before .before .before .before .before .before .before .before .before .before .if1 .left) _ (k .0) (k .1 .1)) (c .before .before .put-table .ensures)
+
+same-length-3 : tie.Need-same-length-3
+same-length-3 c = search needs
+
+returns-3 : tie.Need-returns-3
+returns-3 c = let k = firsts-not _ _ (c .before .before .before .before .before .before .before .before .firsts2 .last .1 .0) _ refl (c .before .before .before .before .before .before .before .before .firsts2 .ensures) _ _ (c .before .before .before .before .before .number .given .1) in
+    puts-same (text-refused _ (c .before .before .before .before .before .before .before .before .before .before .if1 .left) _ (k .0) (k .1)) (c .before .before .put-refusal .ensures)
+
+pub list-spec : {M : Type 1} → statement M
+list-spec =
+    tie.close
+    (tie.spec
+    slice-aggregate-put-text
+    put-text-requires
+    same-length
+    returns
+    slice-aggregate-firsts
+    firsts-requires
+    enum-known-n
+    array-share-prefix-firsts
+    slice-aggregate-put-table
+    put-table-requires
+    enum-known-number
+    put-refusal-requires
+    same-length-2
+    returns-2
+    same-length-3
+    returns-3)

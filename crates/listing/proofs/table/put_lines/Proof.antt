@@ -1,0 +1,123 @@
+use borrow.Author.Needs.{needs}
+-- The invariant: the lines that are left, put where the loop stands, give all.
+use mathlib.Core.Path.{refl, ap, _∙_}
+use Rattle.key.specs.Layout.{isBody}
+use Rattle.dayfile.proofs.Lists.{count-bodies}
+use Prim.Native.Nat.{_-_}
+use native.Mathlib.Omega.{arith}
+use lib.ListN.{length}
+use Rattle.dayfile.specs.Read.{bodiesOf}
+use Rattle.listing.proofs.Lines.{listed-count, listed-body, listed-is-body, Lining, lining-start, lining-turn, lining-end}
+use Rattle.listing.proofs.table.put_lines.Statement.{statement}
+use Rattle.listing.proofs.table.put_lines.Tie as tie
+
+abbrev Inv-loop : tie.InvT-loop
+Inv-loop out₀ at file firsts q₀ k₀ out q k = Lining out₀ at firsts (bodiesOf file) out q k
+
+abbrev μ-loop : tie.MeasureT-loop
+μ-loop out₀ at file firsts q₀ k₀ out q k = length firsts - k
+
+loop-holds : tie.Need-loop-holds Inv-loop μ-loop
+loop-holds c = lining-start _ _ _ _
+
+mul-get : tie.Need-mul-get Inv-loop μ-loop
+mul-get c = let n = listed-count _ _ (c .before .before .before .before .before .pre .0) (c .before .before .before .before .before .pre .1 .0) in omega arith
+
+add-get : tie.Need-add-get Inv-loop μ-loop
+add-get c = let n = listed-count _ _ (c .before .before .before .before .before .pre .0) (c .before .before .before .before .before .pre .1 .0) in omega arith
+
+get-requires : tie.Need-get-requires Inv-loop μ-loop
+get-requires c κs = search needs
+
+cast-place : tie.Need-cast-place Inv-loop μ-loop
+cast-place c = search needs
+
+mul-get-2 : tie.Need-mul-get-2 Inv-loop μ-loop
+mul-get-2 c = let n = listed-count _ _ (c .before .before .before .before .before .before .pre .0) (c .before .before .before .before .before .before .pre .1 .0) in omega arith
+
+add-get-2 : tie.Need-add-get-2 Inv-loop μ-loop
+add-get-2 c = let n = listed-count _ _ (c .before .before .before .before .before .before .pre .0) (c .before .before .before .before .before .before .pre .1 .0) in omega arith
+
+get-requires-2 : tie.Need-get-requires-2 Inv-loop μ-loop
+get-requires-2 c κs = search needs
+
+cast-end : tie.Need-cast-end Inv-loop μ-loop
+cast-end c = search needs
+
+add-end : tie.Need-add-end Inv-loop μ-loop
+add-end c = search needs
+
+add-put-line : tie.Need-add-put-line Inv-loop μ-loop
+add-put-line c = search needs
+
+mul-put-line : tie.Need-mul-put-line Inv-loop μ-loop
+mul-put-line c = search needs
+
+shared-slice-read-put-line : tie.Need-shared-slice-read-put-line Inv-loop μ-loop
+shared-slice-read-put-line c = search needs
+
+sub-put-line : tie.Need-sub-put-line Inv-loop μ-loop
+sub-put-line c = omega arith
+
+part-put-line-start : tie.Need-part-put-line-start Inv-loop μ-loop
+part-put-line-start c = omega arith
+
+part-put-line-end : tie.Need-part-put-line-end Inv-loop μ-loop
+part-put-line-end c = listed-body _ _ (c .before .before .before .before .before .before .before .before .before .pre .0) (c .before .before .before .before .before .before .before .before .before .pre .1 .0) _ _ _ (c .before .before .before .before .loop-test .taken) (c .before .before .before .get .ensures) (c .before .before .get2 .ensures) .1
+
+put-line-requires : tie.Need-put-line-requires Inv-loop μ-loop
+put-line-requires c κs =
+    let p = c .before .before .before .before .before .before .before .before .before .before .pre in
+    let t = c .before .before .before .before .before .loop-test .taken in
+    let n = c .before .before .before .before .before .before .loop .inv .near in
+    (ap isBody (listed-body _ _ (c .before .before .before .before .before .before .before .before .before .before .pre .0) (c .before .before .before .before .before .before .before .before .before .before .pre .1 .0) _ _ _ (c .before .before .before .before .before .loop-test .taken) (c .before .before .before .before .get .ensures) (c .before .before .before .get2 .ensures) .0) ∙ listed-is-body _ _ (p .0) (p .1 .0) _ t, omega arith)
+
+add-k : tie.Need-add-k Inv-loop μ-loop
+add-k c = search needs
+
+loop-less : tie.Need-loop-less Inv-loop μ-loop
+loop-less c = search needs
+
+loop-again : tie.Need-loop-again Inv-loop μ-loop
+loop-again c =
+    let p = c .before .before .before .before .before .before .before .before .before .before .before .before .before .pre in
+    let t = c .before .before .before .before .before .before .before .before .loop-test .taken in
+    let n = listed-count _ _ (p .0) (p .1 .0) in
+    let m = count-bodies (c .before .before .before .before .before .before .before .before .before .before .before .before .before .args .file .now) in
+    let b = listed-body _ _ (c .before .before .before .before .before .before .before .before .before .before .before .before .before .pre .0) (c .before .before .before .before .before .before .before .before .before .before .before .before .before .pre .1 .0) _ _ _ (c .before .before .before .before .before .before .before .before .loop-test .taken) (c .before .before .before .before .before .before .before .get .ensures) (c .before .before .before .before .before .before .get2 .ensures) .0 in
+    lining-turn _ _ _ _ _ _ _ (c .before .before .before .before .before .before .before .before .before .loop .inv) t (omega arith) _ _ _ _ (ap isBody b ∙ listed-is-body _ _ (p .0) (p .1 .0) _ t) refl b (c .before .before .put-line .ensures)
+
+same-length : tie.Need-same-length Inv-loop μ-loop
+same-length c = c .before .loop .inv .long
+
+returns : tie.Need-returns Inv-loop μ-loop
+returns c = lining-end _ _ _ _ _ _ _ (c .before .loop .inv) (c .loop-test .left)
+
+pub put-lines-spec : {M : Type 1} → statement M
+put-lines-spec =
+    tie.close
+    (tie.spec
+    Inv-loop
+    μ-loop
+    loop-holds
+    mul-get
+    add-get
+    get-requires
+    cast-place
+    mul-get-2
+    add-get-2
+    get-requires-2
+    cast-end
+    add-end
+    add-put-line
+    mul-put-line
+    shared-slice-read-put-line
+    sub-put-line
+    part-put-line-start
+    part-put-line-end
+    put-line-requires
+    add-k
+    loop-less
+    loop-again
+    same-length
+    returns)

@@ -1,0 +1,97 @@
+// The listing of an accepted file: a head, a line for each record, and the total.
+use crate::field::put_field;
+use crate::field::put_text;
+use crate::field::put_two;
+use numbers::get;
+ghost use mathlib.Core.Path.{_≡_};
+ghost use mathlib.Core.Bool.{true};
+ghost use mathlib.Core.List.{map};
+ghost use Prim.Native.Nat.{_+_, _*_, _≤_, _<_};
+ghost use lib.ListN.{length};
+ghost use Rattle.key.specs.Body.{Fault, Parts};
+ghost use Rattle.key.specs.Layout.{partsAt, isBody};
+ghost use Rattle.dayfile.specs.Read.{bodiesOf, refusalOf, firstsOf};
+ghost use Rattle.listing.specs.Decimal.{Puts};
+ghost use Rattle.listing.specs.Text.{textRoom, kindsText, line, lines, distinct, totalLine, tableText};
+
+// Puts the kinds of a body's fault, a comma between two.
+fn put_kinds(out: &mut [u8], at: usize, body: &[u8]) -> usize
+    requires { ⌜ (isBody (now body) ≡ true) × (at + 42 ≤ textRoom) ⌝ }
+    ensures { λ r. ⌜ Puts (now (out .entry)) at (kindsText (map (λ (f : Fault). f .kind) (partsAt (now (body .entry)) .faults))) r (now (out .exit)) ⌝ }
+{
+    let count = get(body, 8);
+    let first = get(body, 12) as u64;
+    if count == 1 {
+        return put_field(out, at, first, b' ');
+    }
+    let q = put_field(out, at, first, b',');
+    put_field(out, q, get(body, 20) as u64, b' ')
+}
+
+// Puts the line of record i, whose body is given.
+fn put_line(out: &mut [u8], at: usize, i: usize, first: u32, body: &[u8]) -> usize
+    requires { ⌜ (isBody (now body) ≡ true) × (at + 147 ≤ textRoom) ⌝ }
+    ensures { λ r. ⌜ Puts (now (out .entry)) at (line i first (partsAt (now (body .entry)))) r (now (out .exit)) ⌝ }
+{
+    let kernel = get(body, 0) as u64;
+    let place = get(body, 4) as u64;
+    let count = get(body, 8) as usize;
+    let depth = get(body, 20 + 8 * count) as u64;
+    let q1 = put_two(out, at, i as u64, first as u64);
+    let q2 = put_two(out, q1, kernel, place);
+    let q3 = put_kinds(out, q2, body);
+    put_field(out, q3, depth, b'\n')
+}
+
+// Puts the lines of an accepted file's records.
+fn put_lines(out: &mut [u8], at: usize, file: &[u8], firsts: &[u32]) -> usize
+    requires { ⌜ (refusalOf (now file) ≡ 0) × ((now firsts ≡ firstsOf (bodiesOf (now file))) × (at + 147 * length (now firsts) ≤ textRoom)) ⌝ }
+    ensures { λ r. ⌜ Puts (now (out .entry)) at (lines 1 (now (firsts .entry)) (bodiesOf (now (file .entry)))) r (now (out .exit)) ⌝ }
+{
+    let mut q = at;
+    let mut k: usize = 0;
+    while k < firsts.len() {
+        let place = get(file, 4 + 8 * k) as usize;
+        let end = place + get(file, 8 + 8 * k) as usize;
+        q = put_line(out, q, k + 1, firsts[k], &file[place..end]);
+        k += 1;
+    }
+    q
+}
+
+// How many records are the first with their bytes.
+fn count_distinct(firsts: &[u32]) -> usize
+    ensures { λ r. ⌜ r ≡ distinct 1 (now (firsts .entry)) ⌝ }
+{
+    let mut d: usize = 0;
+    let mut k: usize = 0;
+    while k < firsts.len() {
+        if firsts[k] as usize == k + 1 {
+            d += 1;
+        }
+        k += 1;
+    }
+    d
+}
+
+// Puts the last line: the count of the records, and of those that are the first with their bytes.
+fn put_total(out: &mut [u8], at: usize, total: u64, first_ones: u64) -> usize
+    requires { ⌜ at + 57 ≤ textRoom ⌝ }
+    ensures { λ r. ⌜ Puts (now (out .entry)) at (totalLine total «first_ones») r (now (out .exit)) ⌝ }
+{
+    let q1 = put_text(out, at, b"total ");
+    let q2 = put_field(out, q1, total, b' ');
+    let q3 = put_text(out, q2, b"distinct ");
+    put_field(out, q3, first_ones, b'\n')
+}
+
+// Puts the listing of an accepted file's records.
+pub(crate) fn put_table(out: &mut [u8], file: &[u8], firsts: &[u32]) -> usize
+    requires { ⌜ (refusalOf (now file) ≡ 0) × (now firsts ≡ firstsOf (bodiesOf (now file))) ⌝ }
+    ensures { λ r. ⌜ Puts (now (out .entry)) 0 (tableText (now (firsts .entry)) (bodiesOf (now (file .entry)))) r (now (out .exit)) ⌝ }
+{
+    let first_ones = count_distinct(firsts) as u64;
+    let q1 = put_text(out, 0, b"record first kernel place kinds depth\n");
+    let q2 = put_lines(out, q1, file, firsts);
+    put_total(out, q2, firsts.len() as u64, first_ones)
+}

@@ -1,0 +1,3 @@
+pub mod Placing
+pub mod Numerals
+pub mod OneAnswer

@@ -1,0 +1,319 @@
+//! How often the cases reach each instruction, outcome, fault kind and refusal.
+
+use std::collections::BTreeMap;
+
+use crate::blocks::{self, DEEPEST, LOOP};
+use crate::capture::Capture;
+use crate::operations::Operation;
+use crate::refusal::Refusal;
+use crate::run::{Answer, Outcome};
+use crate::state::{Misfit, State};
+use crate::step;
+use crate::words::{self, Wrong};
+
+/// The numbers 0 to 16 as labels; 0 stands for what isn't refused.
+const NUMBERS: [&str; 17] = [
+    "fine", "1", "2", "3", "4", "5", "6", "7", "8", "9", "10", "11", "12", "13", "14", "15", "16",
+];
+
+/// The groups that have a label for each refusal number.
+const REFUSALS: [(&str, &[usize]); 10] = [
+    ("an instruction read", &[0, 4, 5, 6]),
+    ("an instruction written", &[0, 12, 13]),
+    ("a launch", &[0, 1, 2, 3, 4, 5, 6, 7, 8, 9, 10]),
+    ("a resumed run", &[0, 1, 2, 3, 4, 5, 6, 7, 8, 9, 10, 11]),
+    ("a run's key", &[0, 13, 14]),
+    ("a key written", &[0, 13, 14]),
+    ("a day file made", &[0, 13, 14, 15]),
+    ("a day file read", &[0, 14, 15]),
+    ("a record found", &[0, 14, 15, 16]),
+    ("a listing", &[0, 14, 15]),
+];
+
+/// The groups that have labels of their own.
+const LABELS: [(&str, &[&str]); 9] = [
+    ("a launch answers", &["ended", "out of budget", "fault"]),
+    (
+        "a resumed run answers",
+        &["ended", "out of budget", "fault"],
+    ),
+    ("fault kinds", &["1", "2", "3", "4", "5", "1 2", "1 3"]),
+    ("width", &["8", "16", "32"]),
+    (
+        "refusal 6",
+        &[
+            "field",
+            "predicate form",
+            "predicate number",
+            "special number",
+        ],
+    ),
+    (
+        "refusal 8",
+        &[
+            "ELSE outside",
+            "ELSE after ELSE",
+            "ELSE in a loop",
+            "ENDIF outside",
+            "ENDIF in a loop",
+            "ENDLOOP outside",
+            "ENDLOOP in an IF",
+            "BREAK",
+            "CONTINUE",
+        ],
+    ),
+    (
+        "refusal 11",
+        &[
+            "depth", "place", "blocks", "stranger", "again", "lane", "entered",
+        ],
+    ),
+    (
+        "a step",
+        &[
+            "no lane executes",
+            "lanes part",
+            "a loop goes round",
+            "a loop closes",
+            "lanes leave an inner block",
+            "depth 32",
+        ],
+    ),
+    (
+        "a run",
+        &[
+            "empty code",
+            "budget 0",
+            "no memory",
+            "all halted in a block",
+            "on from a block",
+        ],
+    ),
+];
+
+/// Counts by group and label.
+#[derive(Default)]
+pub struct Reached {
+    counts: BTreeMap<(&'static str, &'static str), u64>,
+}
+
+impl Reached {
+    fn count(&mut self, group: &'static str, label: &'static str) {
+        *self.counts.entry((group, label)).or_default() += 1;
+    }
+
+    /// Counts a refusal by its number; 0 is none.
+    pub fn refusal(&mut self, group: &'static str, number: u32) {
+        self.count(group, NUMBERS[number as usize]);
+    }
+
+    /// Counts what refusal 6 found in these words.
+    pub fn wrong_field(&mut self, words: &[u32]) {
+        let label = match words::wrong_field(words) {
+            Some(Wrong::Field) => "field",
+            Some(Wrong::PredicateForm) => "predicate form",
+            Some(Wrong::PredicateNumber) => "predicate number",
+            Some(Wrong::SpecialNumber) => "special number",
+            None => return,
+        };
+        self.count("refusal 6", label);
+    }
+
+    /// Counts the step that a state is about to make.
+    pub fn step(&mut self, code: &[u32], state: &State) {
+        let instruction = words::instruction_at(code, state.place as usize);
+        let executing = step::executing_lanes(&instruction, state);
+        if executing == 0 {
+            self.count("a step", "no lane executes");
+        } else {
+            self.count("instruction", instruction.operation.name());
+            match (instruction.predicate, instruction.negate) {
+                (0, _) => (),
+                (_, false) => self.count("on a predicate", instruction.operation.name()),
+                (_, true) => self.count("on a predicate negated", instruction.operation.name()),
+            }
+        }
+        self.control(instruction.operation, executing, state);
+    }
+
+    /// Counts what a control instruction is about to do.
+    fn control(&mut self, operation: Operation, executing: u32, state: &State) {
+        let innermost = state.blocks.last();
+        match (operation, innermost) {
+            (Operation::If, _) if executing != 0 && executing != state.active => {
+                self.count("a step", "lanes part");
+            }
+            (Operation::Endloop, Some(block)) if state.active | block.again != 0 => {
+                self.count("a step", "a loop goes round");
+            }
+            (Operation::Endloop, _) => self.count("a step", "a loop closes"),
+            (Operation::Break | Operation::Continue, Some(block))
+                if executing != 0 && block.part != LOOP =>
+            {
+                self.count("a step", "lanes leave an inner block");
+            }
+            _ => (),
+        }
+        if state.blocks.len() == DEEPEST {
+            self.count("a step", "depth 32");
+        }
+    }
+
+    /// Counts what a run was given and what it answered.
+    pub fn run(&mut self, capture: &Capture, answer: &Answer) {
+        let resumed = capture.state.is_some();
+        let (group, answers) = match resumed {
+            false => ("a launch", "a launch answers"),
+            true => ("a resumed run", "a resumed run answers"),
+        };
+        match answer.outcome {
+            Outcome::Refused(refusal) => {
+                self.refusal(group, refusal.number);
+                self.stray(capture, refusal);
+                return self.misfit(capture, refusal.number);
+            }
+            Outcome::Ended => self.count(answers, "ended"),
+            Outcome::OutOfBudget => self.count(answers, "out of budget"),
+            Outcome::Fault(faults) => {
+                self.count(answers, "fault");
+                self.kinds(faults);
+            }
+        }
+        self.refusal(group, 0);
+        self.edges(capture, answer);
+    }
+
+    /// Counts what stood where it can't.
+    fn stray(&mut self, capture: &Capture, refusal: Refusal) {
+        if refusal.number != 8 {
+            return;
+        }
+        let place = refusal.place as usize;
+        let operation = words::instruction_at(&capture.code, place).operation;
+        let open = blocks::open_at(&capture.code, refusal.place).unwrap_or_default();
+        let part = open.last().map_or(0, |block| block.part);
+        let label = match (operation, part) {
+            (Operation::Else, 0) => "ELSE outside",
+            (Operation::Else, LOOP) => "ELSE in a loop",
+            (Operation::Else, _) => "ELSE after ELSE",
+            (Operation::Endif, 0) => "ENDIF outside",
+            (Operation::Endif, _) => "ENDIF in a loop",
+            (Operation::Endloop, 0) => "ENDLOOP outside",
+            (Operation::Endloop, _) => "ENDLOOP in an IF",
+            (Operation::Break, _) => "BREAK",
+            _ => "CONTINUE",
+        };
+        self.count("refusal 8", label);
+    }
+
+    /// Counts why a state was refused.
+    fn misfit(&mut self, capture: &Capture, number: u32) {
+        let state = capture.state.as_ref().filter(|_| number == 11);
+        let misfit = state.and_then(|s| s.misfit(&capture.code, capture.settings.lanes));
+        if let Some(misfit) = misfit {
+            let label = match misfit {
+                Misfit::Depth => "depth",
+                Misfit::Place => "place",
+                Misfit::Blocks => "blocks",
+                Misfit::Stranger => "stranger",
+                Misfit::Again => "again",
+                Misfit::Lane => "lane",
+                Misfit::Entered => "entered",
+            };
+            self.count("refusal 11", label);
+        }
+    }
+
+    /// Counts the list of a fault's kinds.
+    fn kinds(&mut self, faults: [u32; 5]) {
+        let label = match faults.map(|lanes| lanes != 0) {
+            [true, true, ..] => "1 2",
+            [true, _, true, ..] => "1 3",
+            [true, ..] => "1",
+            [_, true, ..] => "2",
+            [_, _, true, ..] => "3",
+            [_, _, _, true, _] => "4",
+            _ => "5",
+        };
+        self.count("fault kinds", label);
+    }
+
+    /// Counts the page's edges of a run that wasn't refused.
+    fn edges(&mut self, capture: &Capture, answer: &Answer) {
+        let width = match capture.settings.width {
+            8 => "8",
+            16 => "16",
+            _ => "32",
+        };
+        self.count("width", width);
+        if capture.code.is_empty() {
+            self.count("a run", "empty code");
+        }
+        if capture.settings.budget == 0 {
+            self.count("a run", "budget 0");
+        }
+        if capture.device.is_empty() && capture.local.is_empty() {
+            self.count("a run", "no memory");
+        }
+        if answer.outcome == Outcome::Ended && !answer.state.blocks.is_empty() {
+            self.count("a run", "all halted in a block");
+        }
+        if capture.state.as_ref().is_some_and(|s| !s.blocks.is_empty()) {
+            self.count("a run", "on from a block");
+        }
+    }
+
+    /// Counts a listing by what it prints.
+    pub fn listing(&mut self, text: &str) {
+        match text {
+            "too long\n" => self.count("a listing", "too long"),
+            "refused 14\n" => self.refusal("a listing", 14),
+            "refused 15\n" => self.refusal("a listing", 15),
+            _ => self.refusal("a listing", 0),
+        }
+    }
+
+    /// Everything that has to be reached.
+    fn expected() -> Vec<(&'static str, &'static str)> {
+        let mut all = vec![("a listing", "too long")];
+        for operation in Operation::ALL {
+            all.push(("instruction", operation.name()));
+            if words::takes_predicate(*operation) {
+                all.push(("on a predicate", operation.name()));
+                all.push(("on a predicate negated", operation.name()));
+            }
+        }
+        for (group, numbers) in REFUSALS {
+            all.extend(numbers.iter().map(|number| (group, NUMBERS[*number])));
+        }
+        for (group, labels) in LABELS {
+            all.extend(labels.iter().map(|label| (group, *label)));
+        }
+        all
+    }
+
+    /// The counts, one line for each group.
+    pub fn table(&self) -> String {
+        let mut lines: BTreeMap<&str, String> = BTreeMap::new();
+        for (group, label) in Self::expected() {
+            let count = self.counts.get(&(group, label)).unwrap_or(&0);
+            let line = lines.entry(group).or_insert(format!("{group}:"));
+            *line += &format!(" {label} {count},");
+        }
+        let lines = lines.values().map(|line| line.trim_end_matches(','));
+        lines.collect::<Vec<_>>().join("\n") + "\n"
+    }
+
+    /// An error that names what was never reached.
+    pub fn check(&self) -> Result<(), String> {
+        let never: Vec<String> = Self::expected()
+            .into_iter()
+            .filter(|key| !self.counts.contains_key(key))
+            .map(|(group, label)| format!("{group} {label}"))
+            .collect();
+        match never.is_empty() {
+            true => Ok(()),
+            false => Err(format!("never reached: {}", never.join(", "))),
+        }
+    }
+}

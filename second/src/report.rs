@@ -1,0 +1,53 @@
+//! The report of a replay, in plain lines.
+
+use crate::blocks::DEEPEST;
+use crate::key;
+use crate::run::{Answer, Outcome};
+use crate::text;
+
+/// The lines of a report, each beginning with its word: outcome, steps, place, kind (one line for
+/// each), active, halted, p1, p2, p3, depth, block (one line for each, outermost first, at most 32)
+/// and, for a fault, key with the body in hexadecimal.
+pub fn report(kernel: u32, answer: &Answer) -> String {
+    let state = &answer.state;
+    let mut lines = vec![
+        format!("outcome {}", outcome(&answer.outcome)),
+        format!("steps {}", answer.steps),
+        format!("place {}", state.place),
+    ];
+    if let Outcome::Fault(faults) = answer.outcome {
+        let found = (1..).zip(faults).filter(|(_, lanes)| *lanes != 0);
+        lines.extend(found.map(|(kind, lanes)| format!("kind {kind} lanes {lanes:08X}")));
+    }
+    lines.extend(text::lane_lines(state));
+    lines.push(format!("depth {}", state.blocks.len()));
+    for b in state.blocks.iter().take(DEEPEST) {
+        let lanes = text::block_lanes(b);
+        lines.push(format!("block {} {} {lanes}", b.part, b.opener));
+    }
+    if let Some(body) = body(kernel, answer) {
+        let hex: String = body.iter().map(|byte| format!("{byte:02X}")).collect();
+        lines.push(format!("key {hex}"));
+    }
+    lines.join("\n") + "\n"
+}
+
+/// The outcome's words.
+fn outcome(outcome: &Outcome) -> String {
+    match outcome {
+        Outcome::Ended => "ended".to_string(),
+        Outcome::OutOfBudget => "out of budget".to_string(),
+        Outcome::Fault(_) => "fault".to_string(),
+        Outcome::Refused(refusal) => {
+            format!("refused {} place {}", refusal.number, refusal.place)
+        }
+    }
+}
+
+/// The key of a fault.
+pub fn body(kernel: u32, answer: &Answer) -> Option<Vec<u8>> {
+    let mut output = vec![0; key::LONGEST_BODY];
+    let length = key::write(kernel, &answer.outcome, &answer.state, &mut output).ok()?;
+    output.truncate(length);
+    Some(output)
+}

@@ -1,0 +1,148 @@
+//! The random cases: their format, what they reach, and what every run they make keeps to.
+
+use second::bench::decoded;
+use second::bytes;
+use second::capture::Capture;
+use second::cases::agreement;
+use second::cases::answer::answer;
+use second::cases::format;
+use second::cases::make;
+use second::cases::reached::Reached;
+use second::cases::{Case, random::Random};
+use second::run::Outcome;
+use second::text;
+
+fn cases(seed: u64, count: u64) -> Vec<Case> {
+    (1..=count).map(|number| make::case(seed, number)).collect()
+}
+
+/// The launches and resumed runs among the cases.
+fn captures(seed: u64, count: u64) -> Vec<Capture> {
+    let capture = |case| match case {
+        Case::Run { capture, .. } => Some(capture),
+        _ => None,
+    };
+    cases(seed, count).into_iter().filter_map(capture).collect()
+}
+
+#[test]
+fn cases_are_read_as_they_were_written() {
+    let made = cases(11, 1500);
+    let file: Vec<u8> = made.iter().flat_map(Case::write).collect();
+    assert_eq!(format::read_all(&file), Ok(made));
+    assert!(format::read_all(&file[..file.len() - 4]).is_err());
+    assert!(format::read_all(&file[..file.len() - 1]).is_err());
+}
+
+#[test]
+fn cases_keep_to_their_bounds() {
+    for case in cases(12, 3000) {
+        match case {
+            Case::Run { capture, key_room } => {
+                assert!(capture.code.len() <= 65_537);
+                assert!(capture.registers.len() <= 8_193);
+                assert!(capture.device.len() <= 2_048 && capture.local.len() <= 2_048);
+                assert!(capture.state.is_none_or(|state| state.blocks.len() <= 40));
+                assert!(key_room <= 66_000);
+            }
+            Case::Key { state, room, .. } => assert!(state.blocks.len() <= 40 && room <= 66_000),
+            Case::Make { bodies, room } => assert!(bodies.len().max(room) <= 66_000),
+            Case::File { file, .. } | Case::Listing { file } => assert!(file.len() <= 66_000),
+            Case::Read { words } => assert!(words.len() <= 4),
+            Case::Write { room, .. } => assert!(room <= 4),
+        }
+    }
+}
+
+#[test]
+fn everything_is_reached() {
+    let reached = &mut Reached::default();
+    for case in cases(13, 3000) {
+        answer(&case, reached);
+    }
+    assert_eq!(reached.check(), Ok(()));
+    assert!(Reached::default().check().is_err());
+}
+
+#[test]
+fn the_first_difference_is_named() {
+    let made = cases(14, 60);
+    let reached = &mut Reached::default();
+    let answers: Vec<u8> = made
+        .iter()
+        .flat_map(|c| answer(c, reached).write())
+        .collect();
+    let numbers = bytes::to_numbers(&answers);
+    assert_eq!(agreement::compare_all(&made, 1, &numbers, reached), Ok(()));
+    let mut random = Random::new(14, 0);
+    for _ in 0..20 {
+        let mut changed = numbers.clone();
+        changed[random.below(numbers.len())] ^= 1 << random.below(32);
+        let difference = agreement::compare_all(&made, 1, &changed, reached);
+        assert!(difference.is_err_and(|text| text.starts_with("case ")));
+    }
+    let short = &numbers[..numbers.len() - 1];
+    assert!(agreement::compare_all(&made, 1, short, reached).is_err());
+    let long = [&numbers[..], &[0]].concat();
+    assert!(agreement::compare_all(&made, 1, &long, reached).is_err());
+}
+
+#[test]
+fn every_state_of_a_run_fits() {
+    for mut capture in captures(15, 600) {
+        let (code, lanes) = (capture.code.clone(), capture.settings.lanes);
+        if code.len() < 1000 {
+            let answer = capture.run_watched(&mut |state| {
+                assert_eq!(state.misfit(&code, lanes), None);
+            });
+            if !matches!(answer.outcome, Outcome::Refused(_)) {
+                assert_eq!(answer.state.misfit(&code, lanes), None);
+            }
+        }
+    }
+}
+
+#[test]
+fn a_run_in_parts_is_the_whole_run() {
+    let mut random = Random::new(16, 0);
+    for mut whole in captures(16, 1500) {
+        let mut parts = whole.clone();
+        let expected = whole.run();
+        if matches!(expected.outcome, Outcome::Refused(_)) {
+            continue;
+        }
+        let budget = parts.settings.budget;
+        parts.settings.budget = random.below(budget as usize + 1) as u32;
+        let stopped = parts.run();
+        parts.settings.budget = budget - stopped.steps;
+        parts.state = Some(stopped.state);
+        let answer = parts.run();
+        assert_eq!(answer.outcome, expected.outcome);
+        assert_eq!(answer.steps + stopped.steps, expected.steps);
+        assert_eq!(answer.state, expected.state);
+        assert_eq!(parts.registers, whole.registers);
+        assert_eq!(parts.device, whole.device);
+        assert_eq!(parts.local, whole.local);
+    }
+}
+
+#[test]
+fn the_decoding_interpreter_gives_the_same() {
+    for mut capture in captures(18, 3000) {
+        let mut other = capture.clone();
+        let expected = capture.run();
+        let refused = matches!(expected.outcome, Outcome::Refused(_));
+        if capture.state.is_none() && !refused {
+            assert_eq!(decoded::run(&mut other), expected);
+            assert_eq!(other, capture);
+        }
+    }
+}
+
+#[test]
+fn captures_are_packed_and_shown_and_packed_again() {
+    for capture in captures(17, 600) {
+        assert_eq!(Capture::read(&capture.write()), Ok(capture.clone()));
+        assert_eq!(text::parse(&text::print(&capture)), Ok(capture));
+    }
+}
