@@ -1,4 +1,0 @@
-pub mod Memory
-pub mod Operands
-pub mod Faulting
-pub mod Carrying
