@@ -1,0 +1,63 @@
+// Sets of lanes, as masks: lane i is bit i.
+ghost use mathlib.Core.Path.{_≡_};
+ghost use mathlib.Core.Bool.{_&&_};
+ghost use Prim.Native.Nat.{min};
+ghost use lib.Bits.{bitAnd, bitOr};
+ghost use lib.Dec.{ltb};
+ghost use Rattle.lanes.specs.Sets as sets;
+ghost use Rattle.lanes.specs.Sets.{widest};
+
+pub type Lanes = u32;
+
+// How many lanes the widest wave has.
+pub const WIDEST: u32 = 32;
+
+// Whether `lane` is in `set`. A lane past the widest wave is in no set.
+pub fn has(set: Lanes, lane: u32) -> bool
+    ensures { λ r. ⌜ r ≡ sets.has set lane ⌝ }
+{
+    (lane < WIDEST) & ((set >> (lane % WIDEST)) % 2 == 1)
+}
+
+// The lanes of either set.
+pub fn union(a: Lanes, b: Lanes) -> Lanes
+    ensures { λ r. ⌜ r ≡ bitOr a b ⌝ }
+{
+    a | b
+}
+
+// The lanes of both sets.
+pub fn meet(a: Lanes, b: Lanes) -> Lanes
+    ensures { λ r. ⌜ r ≡ bitAnd a b ⌝ }
+{
+    a & b
+}
+
+// The lanes of `a` that are not in `b`.
+pub fn without(a: Lanes, b: Lanes) -> Lanes
+    ensures { λ r. ⌜ r ≡ sets.without a b ⌝ }
+{
+    a - (a & b)
+}
+
+// The lanes 0 to `n` - 1; every lane of the widest wave where `n` is larger than it.
+pub fn first(n: u32) -> Lanes
+    ensures { λ r. ⌜ r ≡ sets.first (min n widest) ⌝ }
+{
+    if n < WIDEST {
+        (1u32 << n) - 1
+    } else {
+        0xFFFF_FFFF
+    }
+}
+
+// `lane` alone where `picked`, and else no lane. A lane past the widest wave gives none.
+pub fn only(lane: u32, picked: bool) -> Lanes
+    ensures { λ r. ⌜ r ≡ sets.only lane (picked && ltb lane widest) ⌝ }
+{
+    if picked & (lane < WIDEST) {
+        1u32 << (lane % WIDEST)
+    } else {
+        0
+    }
+}
