@@ -1,0 +1,5 @@
+pub mod Registers
+pub mod Quotients
+pub mod Counting
+pub mod Bounds
+pub mod Marked

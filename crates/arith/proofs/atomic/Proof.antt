@@ -1,0 +1,115 @@
+-- `arith::atomic` meets its contract: each arm goes by what the function that it calls ensures, or by its test.
+use mathlib.Core.Path.{refl}
+use borrow.Author.Tests.{lt-ltb, le-ltb}
+use borrow.Author.Needs.{needs}
+use Rattle.arith.proofs.atomic.Statement.{statement}
+use Rattle.arith.proofs.atomic.Tie as tie
+
+enum-told : tie.Need-enum-told
+enum-told c = search needs
+
+add-requires : tie.Need-add-requires
+add-requires c κs = search needs
+
+enum-told-2 : tie.Need-enum-told-2
+enum-told-2 c = search needs
+
+sub-requires : tie.Need-sub-requires
+sub-requires c κs = search needs
+
+enum-told-3 : tie.Need-enum-told-3
+enum-told-3 c = search needs
+
+enum-told-4 : tie.Need-enum-told-4
+enum-told-4 c = search needs
+
+enum-told-5 : tie.Need-enum-told-5
+enum-told-5 c = search needs
+
+enum-told-6 : tie.Need-enum-told-6
+enum-told-6 c = search needs
+
+min-requires : tie.Need-min-requires
+min-requires c κs = search needs
+
+enum-told-7 : tie.Need-enum-told-7
+enum-told-7 c = search needs
+
+max-requires : tie.Need-max-requires
+max-requires c κs = search needs
+
+enum-told-8 : tie.Need-enum-told-8
+enum-told-8 c = search needs
+
+enum-told-9 : tie.Need-enum-told-9
+enum-told-9 c = search needs
+
+enum-told-10 : tie.Need-enum-told-10
+enum-told-10 c = search needs
+
+returns : tie.Need-returns
+returns c = rw (c .before .enum-told .given .1) (c .add .ensures)
+
+returns-2 : tie.Need-returns-2
+returns-2 c = rw (c .before .enum-told2 .given .1) (c .sub .ensures)
+
+returns-3 : tie.Need-returns-3
+returns-3 c = rw (c .enum-told3 .given .1) refl
+
+returns-4 : tie.Need-returns-4
+returns-4 c = rw (c .enum-told4 .given .1) refl
+
+returns-5 : tie.Need-returns-5
+returns-5 c = rw (c .enum-told5 .given .1) refl
+
+returns-6 : tie.Need-returns-6
+returns-6 c = rw (c .before .enum-told6 .given .1) (c .min .ensures)
+
+returns-7 : tie.Need-returns-7
+returns-7 c = rw (c .before .enum-told7 .given .1) (c .max .ensures)
+
+returns-8 : tie.Need-returns-8
+returns-8 c = rw (c .before .enum-told8 .given .1, lt-ltb _ _ (c .if1 .taken)) refl
+
+returns-9 : tie.Need-returns-9
+returns-9 c = rw (c .before .enum-told8 .given .1, le-ltb _ _ (c .if1 .left)) refl
+
+returns-10 : tie.Need-returns-10
+returns-10 c = rw (c .before .enum-told9 .given .1, lt-ltb _ _ (c .if2 .taken)) refl
+
+returns-11 : tie.Need-returns-11
+returns-11 c = rw (c .before .enum-told9 .given .1, le-ltb _ _ (c .if2 .left)) refl
+
+returns-12 : tie.Need-returns-12
+returns-12 c = rw (c .enum-told10 .given .1) refl
+
+pub atomic-spec : {M : Type 1} → statement M
+atomic-spec =
+    tie.close
+    (tie.spec
+    enum-told
+    add-requires
+    enum-told-2
+    sub-requires
+    enum-told-3
+    enum-told-4
+    enum-told-5
+    enum-told-6
+    min-requires
+    enum-told-7
+    max-requires
+    enum-told-8
+    enum-told-9
+    enum-told-10
+    returns
+    returns-2
+    returns-3
+    returns-4
+    returns-5
+    returns-6
+    returns-7
+    returns-8
+    returns-9
+    returns-10
+    returns-11
+    returns-12)

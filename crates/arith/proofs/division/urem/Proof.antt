@@ -1,0 +1,18 @@
+-- `arith::division::urem` meets its contract: the unsigned remainder by zero is the dividend.
+use mathlib.Core.Path.{sym}
+use native.Mathlib.Nat.{mod-zero}
+use borrow.Author.Needs.{needs}
+use Rattle.arith.proofs.division.urem.Statement.{statement}
+use Rattle.arith.proofs.division.urem.Tie as tie
+
+returns : tie.Need-returns
+returns c = rw (c .if1 .taken) (sym (mod-zero _))
+
+rem-result : tie.Need-rem-result
+rem-result c = search needs
+
+returns-2 : tie.Need-returns-2
+returns-2 c = search needs
+
+pub urem-spec : {M : Type 1} → statement M
+urem-spec = tie.close (tie.spec returns rem-result returns-2)

@@ -1,0 +1,22 @@
+// A register's bits, and a count of them.
+ghost use mathlib.Core.Path.{_≡_};
+ghost use Rattle.arith.specs.Arith.{oneOf};
+use words::instr::OneOp;
+
+// How many bits a register has.
+pub const BITS: u32 = 32;
+
+// How many bits of a register are 1.
+pub fn ones(a: u32) -> u32
+    ensures { λ r. ⌜ r ≡ oneOf OneOp.Popcnt a ⌝ }
+{
+    let mut count: u32 = 0;
+    let mut rest = a;
+    let mut i: u32 = 0;
+    while i < BITS {
+        count += rest % 2;
+        rest /= 2;
+        i += 1;
+    }
+    count
+}

@@ -1,0 +1,106 @@
+// What each operation does to numbers. A register is a u32; where page 01 says signed it is read as an i32.
+// Every function has an answer for all operands: a divisor of zero is the caller's fault to find, by `divides`.
+pub mod bits;
+pub mod division;
+pub mod products;
+pub mod shifts;
+pub mod signed;
+pub mod sums;
+
+ghost use mathlib.Core.Path.{_≡_};
+ghost use Rattle.arith.specs.Arith.{twoOf, oneOf, compareOf, atomicOf, swapOf};
+use crate::bits::ones;
+use crate::division::div;
+use crate::division::rem;
+use crate::division::udiv;
+use crate::division::urem;
+use crate::products::mul;
+use crate::products::mulhi;
+use crate::shifts::sar;
+use crate::shifts::shl;
+use crate::shifts::shr;
+use crate::signed::abs;
+use crate::signed::less;
+use crate::signed::max;
+use crate::signed::min;
+use crate::sums::add;
+use crate::sums::neg;
+use crate::sums::sub;
+use words::instr::AtomicOp;
+use words::instr::CompareOp;
+use words::instr::OneOp;
+use words::instr::TwoOp;
+
+// What `op` gives of RS1 and RS2.
+pub fn two(op: TwoOp, a: u32, b: u32) -> u32
+    ensures { λ r. ⌜ r ≡ twoOf op a b ⌝ }
+{
+    match op {
+        TwoOp::Add => add(a, b),
+        TwoOp::Sub => sub(a, b),
+        TwoOp::Mul => mul(a, b),
+        TwoOp::Div => div(a, b),
+        TwoOp::Udiv => udiv(a, b),
+        TwoOp::Rem => rem(a, b),
+        TwoOp::Urem => urem(a, b),
+        TwoOp::Min => min(a, b),
+        TwoOp::Max => max(a, b),
+        TwoOp::Mulhi => mulhi(a, b),
+        TwoOp::And => a & b,
+        TwoOp::Or => a | b,
+        TwoOp::Xor => a ^ b,
+        TwoOp::Shl => shl(a, b),
+        TwoOp::Shr => shr(a, b),
+        TwoOp::Sar => sar(a, b),
+    }
+}
+
+// What `op` gives of RS1 alone.
+pub fn one(op: OneOp, a: u32) -> u32
+    ensures { λ r. ⌜ r ≡ oneOf op a ⌝ }
+{
+    match op {
+        OneOp::Neg => neg(a),
+        OneOp::Abs => abs(a),
+        OneOp::Not => !a,
+        OneOp::Popcnt => ones(a),
+        OneOp::Mov => a,
+    }
+}
+
+// Whether the comparison holds of RS1 and RS2.
+pub fn compare(op: CompareOp, a: u32, b: u32) -> bool
+    ensures { λ r. ⌜ r ≡ compareOf op a b ⌝ }
+{
+    match op {
+        CompareOp::Eq => a == b,
+        CompareOp::Ne => a != b,
+        CompareOp::Lt => less(a, b),
+        CompareOp::Ge => !less(a, b),
+    }
+}
+
+// What an atomic leaves where it found `old`.
+pub fn atomic(op: AtomicOp, old: u32, v: u32) -> u32
+    ensures { λ r. ⌜ r ≡ atomicOf op old v ⌝ }
+{
+    match op {
+        AtomicOp::Add => add(old, v),
+        AtomicOp::Sub => sub(old, v),
+        AtomicOp::And => old & v,
+        AtomicOp::Or => old | v,
+        AtomicOp::Xor => old ^ v,
+        AtomicOp::Min => min(old, v),
+        AtomicOp::Max => max(old, v),
+        AtomicOp::Umin => if old < v { old } else { v },
+        AtomicOp::Umax => if old < v { v } else { old },
+        AtomicOp::Xchg => v,
+    }
+}
+
+// What compare-and-swap leaves where it found `old`.
+pub fn swap(old: u32, expected: u32, desired: u32) -> u32
+    ensures { λ r. ⌜ r ≡ swapOf old expected desired ⌝ }
+{
+    if old == expected { desired } else { old }
+}
