@@ -1,0 +1,6 @@
+pub mod Registers
+pub mod Memory
+pub mod Operands
+pub mod Values
+pub mod Faulting
+pub mod Carrying
