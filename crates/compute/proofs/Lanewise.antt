@@ -13,7 +13,7 @@ use borrow.Author.Tests.{lt-ltb, le-ltb}
 use Rattle.ground.proofs.Lists.{getD-tabulate, tabulate-ext, tabulate-same}
 use Rattle.lanes.specs.Sets.{widest}
 use Rattle.compute.specs.declared.Shape.{Shape}
-use Rattle.compute.specs.Registers.{slotIn, byLane, gatherOf}
+use Rattle.compute.specs.Registers.{slotIn, byLane, gatherOf, Stands}
 
 -- ---- a number for each lane
 
@@ -32,6 +32,11 @@ pub getD-gather : (shape : Shape) (regs : List ℕ) (r i : ℕ) → i < shape .w
     → getD (gatherOf shape regs r) i 0 ≡ getD regs (slotIn shape i r) 0
 unfolding gatherOf
 getD-gather shape regs r i h n = getD-by-lane (shape .width) _ i h n
+
+-- a lane's register that a loop reads is what is gathered of it
+pub read-gathered : {shape : Shape} {regs : List ℕ} {r : ℕ} → Stands shape regs r → (i k : ℕ) → k ≡ slotIn shape i r → i < shape .width
+    → getD regs k 0 ≡ getD (gatherOf shape regs r) i 0
+read-gathered {shape} {regs} {r} h i k e b = rw e (sym (getD-gather shape regs r i b (h .narrow)))
 
 -- ---- a loop that fills a list
 

@@ -1,3 +1,4 @@
 pub mod Slots
 pub mod Lanewise
 pub mod Writing
+pub mod Changing

@@ -35,7 +35,7 @@ faultsOf shape x t v m = kindsOf (shape .width) t (kindOf x (m .memories) v)
 unfoldable pub afterOf : Shape → Instr → ℕ → Operands → Lent → Lent
 afterOf shape x t v m =
     record {
-      predicate = predicateBy (targetBy (x .op)) t (resultsOf shape x t (m .memories) v) (m .predicate);
+      predicate = predicateBy (targetBy (x .op)) shape t (resultsOf shape x t (m .memories) v) (m .predicate);
       regs = regsBy (targetBy (x .op)) shape (x .rd) t (resultsOf shape x t (m .memories) v) (m .regs);
       memories = memoriesBy (x .op) (shape .width) x t v (m .memories);
     }

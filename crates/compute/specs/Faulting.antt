@@ -13,15 +13,13 @@ use Rattle.compute.specs.declared.Faults.{Faults}
 use Rattle.compute.specs.Memory.{Memories, memoryOf, wordOf}
 use Rattle.compute.specs.Operands.{Operands}
 
--- past the device memory is kind 2, past the local memory kind 3
 abbrev pub pastKind : Space → ℕ
 pastKind Space.Device = 2
 pastKind Space.Local = 3
 
--- an address that is not a multiple of 4 is kind 1; 0 is no fault
-abbrev pub addressFault : Space → Memories → ℕ → ℕ
-addressFault s y address =
-    cond (eqb (address % 4) 0) (cond (leb (length (memoryOf s y)) (wordOf address)) (pastKind s) 0) 1
+-- an address that is not a multiple of 4 is kind 1, one past the words of the memory kind 2 or 3; 0 is no fault
+abbrev pub addressFault : Space → ℕ → ℕ → ℕ
+addressFault s words address = cond (eqb (address % 4) 0) (cond (leb words (wordOf address)) (pastKind s) 0) 1
 
 -- a lane's kind of fault, of its RS1 and RS2; a divisor of zero is kind 4
 abbrev pub faultBy : Op → Instr → Memories → ℕ → ℕ → ℕ
@@ -30,10 +28,10 @@ faultBy (Op.Compare o) x y a b = 0
 faultBy (Op.One o) x y a b = 0
 faultBy Op.Special x y a b = 0
 faultBy Op.Number x y a b = 0
-faultBy (Op.Load s) x y a b = addressFault s y (addressOf a (x .number))
-faultBy (Op.Store s) x y a b = addressFault s y (addressOf a (x .number))
-faultBy (Op.Atomic o) x y a b = addressFault Space.Device y a
-faultBy Op.Cas x y a b = addressFault Space.Device y a
+faultBy (Op.Load s) x y a b = addressFault s (length (memoryOf s y)) (addressOf a (x .number))
+faultBy (Op.Store s) x y a b = addressFault s (length (memoryOf s y)) (addressOf a (x .number))
+faultBy (Op.Atomic o) x y a b = addressFault Space.Device (length (y .device)) a
+faultBy Op.Cas x y a b = addressFault Space.Device (length (y .device)) a
 faultBy (Op.Control o) x y a b = 0
 
 -- the executing lanes with a fault of kind k

@@ -4,3 +4,4 @@ pub mod Operands
 pub mod Values
 pub mod Faulting
 pub mod Carrying
+pub mod Lanewise

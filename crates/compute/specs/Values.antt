@@ -1,10 +1,11 @@
 -- The lanes' results, and where they go; what stores and atomics make of the memories. All of it of what the lanes read.
 use Prim.Native.Nat.{ℕ}
-use mathlib.Core.Bool.{Bool, cond}
+use mathlib.Core.Bool.{_&&_, cond}
 use mathlib.Core.List.{List}
+use lib.Bits.{bitOr}
 use lib.Dec.{eqb}
 use lib.ListN.{getD}
-use Rattle.lanes.specs.Sets.{widest, has, setOf}
+use Rattle.lanes.specs.Sets.{has, without, setOf}
 use Rattle.words.specs.declared.instr.AtomicOp.{AtomicOp}
 use Rattle.words.specs.declared.instr.Op.{Op}
 use Rattle.words.specs.declared.instr.Space.{Space}
@@ -67,14 +68,14 @@ regsBy register shape d t results regs = writeLanes shape regs d t results
 regsBy predicate shape d t results regs = regs
 regsBy nothing shape d t results regs = regs
 
--- a predicate's bit of an executing lane becomes the lane's result, the others stay
-unfoldable pub predicateOf : ℕ → ℕ → List ℕ → ℕ
-predicateOf p t results = setOf widest (λ i. cond (has t i) (eqb (getD results i 0) 1) (has p i))
+-- a predicate loses the executing lanes, and gains those of them whose result is 1
+unfoldable pub predicateOf : ℕ → ℕ → ℕ → List ℕ → ℕ
+predicateOf W p t results = bitOr (without p t) (setOf W (λ i. has t i && eqb (getD results i 0) 1))
 
-abbrev pub predicateBy : Target → ℕ → List ℕ → ℕ → ℕ
-predicateBy register t results p = p
-predicateBy predicate t results p = predicateOf p t results
-predicateBy nothing t results p = p
+abbrev pub predicateBy : Target → Shape → ℕ → List ℕ → ℕ → ℕ
+predicateBy register shape t results p = p
+predicateBy predicate shape t results p = predicateOf (shape .width) p t results
+predicateBy nothing shape t results p = p
 
 -- one of the memories changed
 abbrev pub changed : Space → (List ℕ → List ℕ) → Memories → Memories

@@ -1,7 +1,12 @@
 // One instruction that is not control, carried out by the executing lanes: every lane's result is worked out before any lane is
 // written, and with a fault nothing is written at all.
+mod comparisons;
+mod constants;
 mod masks;
+mod memory;
+mod one_operand;
 mod registers;
+mod two_operands;
 
 ghost use mathlib.Core.Path.{_≡_};
 use lanes::Lanes;
