@@ -1,10 +1,11 @@
 -- Faults, kind by kind and lane by lane. Page 01, "One step".
 use Prim.Native.Nat.{ℕ, _%_}
-use mathlib.Core.Bool.{Bool, _&&_, cond}
+use mathlib.Core.Bool.{Bool, not, _&&_, cond}
 use mathlib.Core.List.{List, [], _∷_}
 use lib.Dec.{eqb, leb}
 use lib.ListN.{length, getD}
 use Rattle.lanes.specs.Sets.{has, setOf}
+use Rattle.words.specs.declared.instr.TwoOp.{TwoOp}
 use Rattle.words.specs.declared.instr.Op.{Op}
 use Rattle.words.specs.declared.instr.Space.{Space}
 use Rattle.words.specs.declared.instr.Instr.{Instr}
@@ -13,17 +14,28 @@ use Rattle.compute.specs.declared.Faults.{Faults}
 use Rattle.compute.specs.Memory.{Memories, memoryOf, wordOf}
 use Rattle.compute.specs.Operands.{Operands}
 
+-- an address that is not a multiple of 4, and one past a memory of so many words
+abbrev pub isOdd : ℕ → Bool
+isOdd address = not (eqb (address % 4) 0)
+
+abbrev pub isPast : ℕ → ℕ → Bool
+isPast words address = leb words (wordOf address)
+
 abbrev pub pastKind : Space → ℕ
 pastKind Space.Device = 2
 pastKind Space.Local = 3
 
--- an address that is not a multiple of 4 is kind 1, one past the words of the memory kind 2 or 3; 0 is no fault
+-- an address's kind of fault, 0 for none: 1 not a multiple of 4; 2 device, 3 local address a multiple of 4 and past the memory
 abbrev pub addressFault : Space → ℕ → ℕ → ℕ
-addressFault s words address = cond (eqb (address % 4) 0) (cond (leb words (wordOf address)) (pastKind s) 0) 1
+addressFault s words address = cond (isOdd address) 1 (cond (isPast words address) (pastKind s) 0)
 
--- a lane's kind of fault, of its RS1 and RS2; a divisor of zero is kind 4
+-- a divisor's: 4 divisor zero
+abbrev pub divisorFault : TwoOp → ℕ → ℕ
+divisorFault o divisor = cond (divides o && eqb divisor 0) 4 0
+
+-- a lane's, of its RS1 and RS2: an atomic's address is RS1
 abbrev pub faultBy : Op → Instr → Memories → ℕ → ℕ → ℕ
-faultBy (Op.Two o) x y a b = cond (divides o && eqb b 0) 4 0
+faultBy (Op.Two o) x y a b = divisorFault o b
 faultBy (Op.Compare o) x y a b = 0
 faultBy (Op.One o) x y a b = 0
 faultBy Op.Special x y a b = 0

@@ -5,3 +5,4 @@ pub mod Values
 pub mod Faulting
 pub mod Carrying
 pub mod Lanewise
+pub mod Classes

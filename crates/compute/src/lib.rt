@@ -1,7 +1,9 @@
 // One instruction that is not control, carried out by the executing lanes: every lane's result is worked out before any lane is
 // written, and with a fault nothing is written at all.
+mod classes;
 mod comparisons;
 mod constants;
+mod faulting;
 mod masks;
 mod memory;
 mod one_operand;
