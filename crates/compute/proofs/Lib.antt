@@ -4,3 +4,6 @@ pub mod Writing
 pub mod Changing
 pub mod Settling
 pub mod FaultKinds
+pub mod Standing
+pub mod Arms
+pub mod Carrying

@@ -14,6 +14,9 @@ pub record Memories : Type 0 where
   pub device : List ℕ
   pub local : List ℕ
 
+abbrev pub memories : List ℕ → List ℕ → Memories
+memories device local = record { device = device; local = local }
+
 abbrev pub memoryOf : Space → Memories → List ℕ
 memoryOf Space.Device y = y .device
 memoryOf Space.Local y = y .local

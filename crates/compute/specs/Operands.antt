@@ -7,7 +7,7 @@ use Rattle.words.specs.declared.registers.Registers.{Registers}
 use Rattle.words.specs.Registers.{registersOf}
 use Rattle.compute.specs.declared.Shape.{Shape}
 use Rattle.compute.specs.Registers.{gatherOf}
-use Rattle.compute.specs.Memory.{Memories}
+use Rattle.compute.specs.Memory.{Memories, memories}
 
 -- the predicate that RD names, the registers and the memories
 pub record Lent : Type 0 where
@@ -17,7 +17,7 @@ pub record Lent : Type 0 where
 
 abbrev pub lent : ℕ → List ℕ → List ℕ → List ℕ → Lent
 lent predicate regs device local =
-    record { predicate = predicate; regs = regs; memories = record { device = device; local = local } }
+    record { predicate = predicate; regs = regs; memories = memories device local }
 
 -- the lanes' registers RS1, RS2, RS3 and RD
 pub record Operands : Type 0 where

@@ -13,7 +13,7 @@ use Rattle.words.specs.declared.instr.Instr.{Instr}
 use Rattle.arith.specs.Arith.{twoOf, oneOf, compareOf, atomicOf, swapOf, addressOf}
 use Rattle.compute.specs.declared.Shape.{Shape}
 use Rattle.compute.specs.Registers.{byLane, writeLanes}
-use Rattle.compute.specs.Memory.{Memories, memoryOf, addressesOf, wordOf, changesOf, oldOf}
+use Rattle.compute.specs.Memory.{Memories, memories, memoryOf, addressesOf, wordOf, changesOf, oldOf}
 use Rattle.compute.specs.Operands.{Operands}
 
 -- MOV_SPECIAL: 0 is the lane's number, 1 the wave's number, which is 0, 2 the number of waves, which is 1
@@ -79,8 +79,8 @@ predicateBy nothing shape t results p = p
 
 -- one of the memories changed
 abbrev pub changed : Space → (List ℕ → List ℕ) → Memories → Memories
-changed Space.Device f y = record { device = f (y .device); local = y .local }
-changed Space.Local f y = record { device = y .device; local = f (y .local) }
+changed Space.Device f y = memories (f (y .device)) (y .local)
+changed Space.Local f y = memories (y .device) (f (y .local))
 
 -- the memories after the lanes t: an atomic's address is RS1, on device memory
 abbrev pub memoriesBy : Op → ℕ → Instr → ℕ → Operands → Memories → Memories

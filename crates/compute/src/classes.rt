@@ -1,10 +1,10 @@
 // One class of instructions each, whole: the results of every lane, then the writing, unless a lane faults.
 ghost use mathlib.Core.Path.{_≡_};
-ghost use Prim.Native.Nat.{_≤_};
 ghost use lib.ListN.{getD, length};
 ghost use Rattle.compute.specs.Registers.{Stands, byLane, gatherOf, writeLanes};
-ghost use Rattle.compute.specs.Memory.{addressesOf, changesOf, oldOf};
-ghost use Rattle.compute.specs.Values.{predicateOf};
+ghost use Rattle.compute.specs.Memory.{memories, memoryOf, addressesOf, changesOf, oldOf};
+ghost use Rattle.compute.specs.Values.{changed};
+ghost use Rattle.compute.specs.Faulting.{faults};
 ghost use Rattle.compute.specs.Lanewise.{twoLanes, loadLanes, changeTo};
 ghost use Rattle.compute.specs.Classes.{Settled, addressFaults, divisorFaults};
 use crate::Faults;
@@ -12,6 +12,7 @@ use crate::Shape;
 use crate::faulting::address_faults;
 use crate::faulting::clear;
 use crate::faulting::divisor_faults;
+use crate::faulting::no_faults;
 use crate::memory::Change;
 use crate::memory::addresses;
 use crate::memory::change_lanes;
@@ -43,6 +44,15 @@ fn write_results(results: Results, t: Lanes, rd: u8, shape: Shape, regs: &mut [u
     faults
 }
 
+// Results that no lane's fault stops.
+pub fn carry_value(value: [u32; 32], t: Lanes, rd: u8, shape: Shape, regs: &mut [u32]) -> Faults
+    requires { ⌜ Stands shape (now regs) rd ⌝ }
+    ensures { λ r. ⌜ Settled (faults 0 0 0 0) (writeLanes shape (now (regs .entry)) rd t value) r (now (regs .entry)) (now (regs .exit)) ⌝ }
+{
+    let faults = no_faults();
+    write_results(Results { value, faults }, t, rd, shape, regs)
+}
+
 // An operation on RS1 and RS2.
 pub fn carry_two(op: TwoOp, t: Lanes, rd: u8, rs1: u8, rs2: u8, shape: Shape, regs: &mut [u32]) -> Faults
     requires { ⌜ Stands shape (now regs) rd × Stands shape (now regs) rs1 × Stands shape (now regs) rs2 ⌝ }
@@ -53,8 +63,8 @@ pub fn carry_two(op: TwoOp, t: Lanes, rd: u8, rs1: u8, rs2: u8, shape: Shape, re
     write_results(Results { value, faults }, t, rd, shape, regs)
 }
 
-// A load.
-pub fn carry_load(space: Space, t: Lanes, rd: u8, rs1: u8, offset: u32, shape: Shape, regs: &mut [u32], memory: &[u32]) -> Faults
+// A load from one memory.
+fn load_through(space: Space, t: Lanes, rd: u8, rs1: u8, offset: u32, shape: Shape, regs: &mut [u32], memory: &[u32]) -> Faults
     requires { ⌜ Stands shape (now regs) rd × Stands shape (now regs) rs1 ⌝ }
     ensures { λ r. ⌜ Settled (addressFaults space (shape .width) (addressesOf (shape .width) (gatherOf shape (now (regs .entry)) rs1) offset) (length (now (memory .entry))) t) (writeLanes shape (now (regs .entry)) rd t (loadLanes (shape .width) (addressesOf (shape .width) (gatherOf shape (now (regs .entry)) rs1) offset) (now (memory .entry)))) r (now (regs .entry)) (now (regs .exit)) ⌝ }
 {
@@ -65,8 +75,8 @@ pub fn carry_load(space: Space, t: Lanes, rd: u8, rs1: u8, offset: u32, shape: S
     write_results(Results { value, faults }, t, rd, shape, regs)
 }
 
-// A store.
-pub fn carry_store(space: Space, t: Lanes, rd: u8, rs1: u8, offset: u32, shape: Shape, regs: &[u32], memory: &mut [u32]) -> Faults
+// A store to one memory.
+fn store_through(space: Space, t: Lanes, rd: u8, rs1: u8, offset: u32, shape: Shape, regs: &[u32], memory: &mut [u32]) -> Faults
     requires { ⌜ Stands shape (now regs) rd × Stands shape (now regs) rs1 ⌝ }
     ensures { λ r. ⌜ Settled (addressFaults space (shape .width) (addressesOf (shape .width) (gatherOf shape (now (regs .entry)) rs1) offset) (length (now (memory .entry))) t) (changesOf (shape .width) (addressesOf (shape .width) (gatherOf shape (now (regs .entry)) rs1) offset) (λ i old. getD (gatherOf shape (now (regs .entry)) rd) i 0) t (now (memory .entry))) r (now (memory .entry)) (now (memory .exit)) ⌝ }
 {
@@ -76,6 +86,48 @@ pub fn carry_store(space: Space, t: Lanes, rd: u8, rs1: u8, offset: u32, shape: 
         store_lanes(at, t, rd, shape, regs, memory);
     }
     faults
+}
+
+// A load.
+pub fn carry_load(
+    space: Space,
+    t: Lanes,
+    rd: u8,
+    rs1: u8,
+    offset: u32,
+    shape: Shape,
+    regs: &mut [u32],
+    device: &[u32],
+    local: &[u32],
+) -> Faults
+    requires { ⌜ Stands shape (now regs) rd × Stands shape (now regs) rs1 ⌝ }
+    ensures { λ r. ⌜ Settled (addressFaults space (shape .width) (addressesOf (shape .width) (gatherOf shape (now (regs .entry)) rs1) offset) (length (memoryOf space (memories (now (device .entry)) (now (local .entry))))) t) (writeLanes shape (now (regs .entry)) rd t (loadLanes (shape .width) (addressesOf (shape .width) (gatherOf shape (now (regs .entry)) rs1) offset) (memoryOf space (memories (now (device .entry)) (now (local .entry)))))) r (now (regs .entry)) (now (regs .exit)) ⌝ }
+{
+    match space {
+        Space::Device => load_through(Space::Device, t, rd, rs1, offset, shape, regs, device),
+        Space::Local => load_through(Space::Local, t, rd, rs1, offset, shape, regs, local),
+    }
+}
+
+// A store.
+pub fn carry_store(
+    space: Space,
+    t: Lanes,
+    rd: u8,
+    rs1: u8,
+    offset: u32,
+    shape: Shape,
+    regs: &[u32],
+    device: &mut [u32],
+    local: &mut [u32],
+) -> Faults
+    requires { ⌜ Stands shape (now regs) rd × Stands shape (now regs) rs1 ⌝ }
+    ensures { λ r. ⌜ Settled (addressFaults space (shape .width) (addressesOf (shape .width) (gatherOf shape (now (regs .entry)) rs1) offset) (length (memoryOf space (memories (now (device .entry)) (now (local .entry))))) t) (changed space (changesOf (shape .width) (addressesOf (shape .width) (gatherOf shape (now (regs .entry)) rs1) offset) (λ i old. getD (gatherOf shape (now (regs .entry)) rd) i 0) t) (memories (now (device .entry)) (now (local .entry)))) r (memories (now (device .entry)) (now (local .entry))) (memories (now (device .exit)) (now (local .exit))) ⌝ }
+{
+    match space {
+        Space::Device => store_through(Space::Device, t, rd, rs1, offset, shape, regs, device),
+        Space::Local => store_through(Space::Local, t, rd, rs1, offset, shape, regs, local),
+    }
 }
 
 // An atomic, on device memory.

@@ -1,51 +1,41 @@
--- `compute::classes::carry_load` meets its contract: the writer's, of the words and faults at the addresses.
-use mathlib.Core.Path.{ap, _∙_}
-use mathlib.Core.List.{List}
-use Prim.Native.Nat.{ℕ}
-use lib.ListN.{length}
+-- `compute::classes::carry_load` meets its contract, by cases of the memory.
 use borrow.Author.Needs.{needs}
-use Rattle.compute.specs.Registers.{writeLanes}
-use Rattle.compute.specs.Lanewise.{loadLanes}
-use Rattle.compute.specs.Classes.{addressFaults}
-use Rattle.compute.proofs.Settling.{settled-as}
 use Rattle.compute.proofs.classes.carry_load.Statement.{statement}
 use Rattle.compute.proofs.classes.carry_load.Tie as tie
 
-addresses-requires : tie.Need-addresses-requires
-addresses-requires c κs = search needs
+enum-told : tie.Need-enum-told
+enum-told c = search needs
 
-address-faults-requires : tie.Need-address-faults-requires
-address-faults-requires c κs = search needs
+load-through-requires : tie.Need-load-through-requires
+load-through-requires c κs = search needs
 
-load-lanes-requires : tie.Need-load-lanes-requires
-load-lanes-requires c κs = search needs
+enum-told-2 : tie.Need-enum-told-2
+enum-told-2 c = search needs
 
-write-results-requires : tie.Need-write-results-requires
-write-results-requires c κs = search needs
+load-through-requires-2 : tie.Need-load-through-requires-2
+load-through-requires-2 c κs = search needs
 
 same-length : tie.Need-same-length
 same-length c = search needs
 
 returns : tie.Need-returns
-returns c = 
-    let w = c .before .before in
-    let v = w .before .before in
-    let f = v .before in
-    let z = f .before in
-    let a = z .before .before .before .before .args in
-    settled-as (w .write-results .ensures) _ _
-    (f .address-faults .ensures
-    ∙ ap (λ (at : List ℕ). addressFaults (a .space) (a .shape .width) at (length (a .memory .now)) (a .t)) (z .addresses .ensures))
-    (ap (λ (l : List ℕ). writeLanes (a .shape) (a .regs .now) (a .rd) (a .t) l)
-    (v .load-lanes .ensures ∙ ap (λ (at : List ℕ). loadLanes (a .shape .width) at (a .memory .now)) (z .addresses .ensures)))
+returns c = let w = c .before .before in rw (w .before .before .enum-told .given .1) (w .load-through .ensures)
+
+same-length-2 : tie.Need-same-length-2
+same-length-2 c = search needs
+
+returns-2 : tie.Need-returns-2
+returns-2 c = let w = c .before .before in rw (w .before .before .enum-told2 .given .1) (w .load-through2 .ensures)
 
 pub carry-load-spec : {M : Type 1} → statement M
 carry-load-spec =
     tie.close
     (tie.spec
-    addresses-requires
-    address-faults-requires
-    load-lanes-requires
-    write-results-requires
+    enum-told
+    load-through-requires
+    enum-told-2
+    load-through-requires-2
     same-length
-    returns)
+    returns
+    same-length-2
+    returns-2)

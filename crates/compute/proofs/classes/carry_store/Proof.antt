@@ -1,37 +1,23 @@
--- `compute::classes::carry_store` meets its contract: the stores at the addresses, by what `clear` told of their faults.
-use mathlib.Core.Path.{_≡_, ap, _∙_}
+-- `compute::classes::carry_store` meets its contract, by cases of the memory.
 use mathlib.Core.List.{List}
 use Prim.Native.Nat.{ℕ}
-use lib.ListN.{length, getD}
 use borrow.Author.Needs.{needs}
-use Rattle.compute.specs.Registers.{gatherOf}
-use Rattle.compute.specs.Memory.{addressesOf, changesOf}
-use Rattle.compute.specs.Classes.{addressFaults}
-use Rattle.compute.proofs.Settling.{settled-changed, settled-same}
+use Rattle.compute.specs.Memory.{memories}
+use Rattle.compute.proofs.Settling.{settled-within}
 use Rattle.compute.proofs.classes.carry_store.Statement.{statement}
 use Rattle.compute.proofs.classes.carry_store.Tie as tie
 
--- the faults are those at the addresses
-faults-are : (z : tie.After-address-faults)
-    → let a = z .before .before .before .before .args in
-    z .address-faults .result
-    ≡ addressFaults (a .space) (a .shape .width) (addressesOf (a .shape .width) (gatherOf (a .shape) (a .regs .now) (a .rs1)) (a .offset)) (length (a .memory .now)) (a .t)
-faults-are z =
-    let a = z .before .before .before .before .args in
-    z .address-faults .ensures
-    ∙ ap (λ (at : List ℕ). addressFaults (a .space) (a .shape .width) at (length (a .memory .now)) (a .t)) (z .before .addresses .ensures)
+enum-told : tie.Need-enum-told
+enum-told c = search needs
 
-addresses-requires : tie.Need-addresses-requires
-addresses-requires c κs = search needs
+store-through-requires : tie.Need-store-through-requires
+store-through-requires c κs = search needs
 
-address-faults-requires : tie.Need-address-faults-requires
-address-faults-requires c κs = search needs
+enum-told-2 : tie.Need-enum-told-2
+enum-told-2 c = search needs
 
-clear-requires : tie.Need-clear-requires
-clear-requires c κs = search needs
-
-store-lanes-requires : tie.Need-store-lanes-requires
-store-lanes-requires c κs = search needs
+store-through-requires-2 : tie.Need-store-through-requires-2
+store-through-requires-2 c κs = search needs
 
 same-length : tie.Need-same-length
 same-length c = search needs
@@ -39,25 +25,27 @@ same-length c = search needs
 returns : tie.Need-returns
 returns c = 
     let w = c .before .before in
-    let t = w .before .before .before in
-    let z = t .before in
-    let a = z .before .before .before .before .args in
-    settled-changed _ _ _ (faults-are z) (t .clear .ensures) _ _ _ (w .before .before .if1 .taken)
-    (w .store-lanes .ensures
-    ∙ ap (λ (at : List ℕ). changesOf (a .shape .width) at (λ i old. getD (gatherOf (a .shape) (a .regs .now) (a .rd)) i 0) (a .t) (a .memory .now))
-    (z .before .addresses .ensures))
+    let a = w .before .before .before .before .before .before .before .args in
+    rw (w .before .before .enum-told .given .1) (settled-within (λ (l : List ℕ). memories l (a .local .now)) (w .store-through .ensures))
+
+same-length-2 : tie.Need-same-length-2
+same-length-2 c = search needs
 
 returns-2 : tie.Need-returns-2
-returns-2 c = settled-same _ _ _ (faults-are (c .before .before)) (c .before .clear .ensures) _ _ (c .if1 .left)
+returns-2 c = 
+    let w = c .before .before in
+    let a = w .before .before .before .before .before .before .before .args in
+    rw (w .before .before .enum-told2 .given .1) (settled-within (memories (a .device .now)) (w .store-through2 .ensures))
 
 pub carry-store-spec : {M : Type 1} → statement M
 carry-store-spec =
     tie.close
     (tie.spec
-    addresses-requires
-    address-faults-requires
-    clear-requires
-    store-lanes-requires
+    enum-told
+    store-through-requires
+    enum-told-2
+    store-through-requires-2
     same-length
     returns
+    same-length-2
     returns-2)
