@@ -29,7 +29,7 @@ use Rattle.compute.specs.Memory.{Memories}
 use Rattle.compute.specs.Operands.{Lent, lent}
 use Rattle.compute.specs.Faulting.{clear}
 use Rattle.compute.specs.Carrying.{Outcome, outcome, carried, carriedOf}
-use Rattle.compute.proofs.Laws.{fault-keeps, control-idle}
+use Rattle.compute.proofs.Carrying as carrying
 use Rattle.replay.specs.declared.settings.Settings.{Settings}
 use Rattle.replay.specs.declared.step.StepAnswer.{StepAnswer}
 use Rattle.replay.specs.Machine.{Machine, machineOf, named, preds, withNamed, hotWith}
@@ -88,12 +88,12 @@ module _ (s : Settings) (x : Instr) (t p : ℕ) (h : Hot) (path regs device loca
     pub ordinary-off : clear f ≡ false → given f (machineOf h path regs′ device′ local′) ≡ ordinaryOf s x t before
     ordinary-off e =
         let none : clear (withBarrier 0 (r .faults)) ≡ false = ap clear (sym with-none) ∙ e in
-        let faulted : clear (carriedOf (shapeOf s) x t (lent p regs device local) .faults) ≡ false =
+        let bad : clear (carriedOf (shapeOf s) x t (lent p regs device local) .faults) ≡ false =
         ap (λ (o : Outcome). clear (o .faults)) (sym carries)
         ∙ still-false (eqb (r .faults .odd) 0 && eqb (r .faults .device) 0 && eqb (r .faults .local) 0 && eqb (r .faults .divisor) 0)
         (eqb (r .faults .barrier) 0) none in
         let kept : lent (r .predicate) regs′ device′ local′ ≡ lent p regs device local =
-        ap (λ (o : Outcome). o .after) carries ∙ fault-keeps (shapeOf s) x t (lent p regs device local) faulted in
+        ap (λ (o : Outcome). o .after) carries ∙ carrying.faulted (shapeOf s) x t (lent p regs device local) bad in
         ap (λ (l : Lent). given f (record { wave = waveOf h path; preds = predsOf h; regs = l .regs; memories = l .memories })) kept
         ∙ (rw (with-none, none)) ∙ ap (of-parts s x before) carries-it
 
@@ -146,7 +146,7 @@ module _ (s : Settings) (x : Instr) (o : ControlOp) (h : Hot) (path path′ regs
   with-wave w = record { wave = w; preds = predsOf h; regs = regs; memories = record { device = device; local = local } }
 
   idle : computed s x (lanesOf x at) at ≡ outcome noFaults (lent (named (x .rd) (predsOf h)) regs device local)
-  idle = control-idle (shapeOf s) x (lanesOf x at) _ o (control-is (x .op) o is)
+  idle = carrying.control (shapeOf s) x (lanesOf x at) _ o (control-is (x .op) o is)
 
   by-rule :
       Seen o (launchedOf s) (lanesOf x at) h path r path′ →
