@@ -2,3 +2,4 @@ pub mod Bools
 pub mod Lists
 pub mod Numbers
 pub mod Turns
+pub mod Choices
