@@ -5,9 +5,10 @@ use mathlib.Core.List.{List}
 use Prim.Native.Nat.{ℕ}
 use lib.ListN.{length, getD, set}
 use Rattle.ground.specs.Lists.{inOrder}
+use Rattle.ground.proofs.Lists.{length-inOrder}
+use Rattle.ground.proofs.Choices.{length-set-cond}
 use Rattle.lanes.specs.Sets.{has}
-use Rattle.compute.specs.Memory.{wordOf, wordAt, changeTurn, oldOf}
-use Rattle.compute.proofs.Writing.{length-chosen}
+use Rattle.compute.specs.Memory.{wordOf, wordAt, changeTurn, changesOf, oldOf}
 
 turn : (l : List ℕ) (k : ℕ) (f : ℕ → ℕ) (p : Bool) → cond p (set l k (f (cond p (getD l k 0) 0))) l ≡ cond p (set l k (f (getD l k 0))) l
 turn l k f true = refl
@@ -30,4 +31,8 @@ found-old at f t i before now p e h =
     ap (λ (q : Bool). cond q (wordAt at now i) 0) e ∙ ap (λ (l : List ℕ). cond (has t i) (wordAt at l i) 0) h
 
 pub length-change-turn : (at : List ℕ) (f : ℕ → ℕ → ℕ) (t i : ℕ) (memory : List ℕ) → length (changeTurn at f t i memory) ≡ length memory
-length-change-turn at f t i memory = length-chosen memory (wordOf (getD at i 0)) (f i (wordAt at memory i)) (has t i)
+length-change-turn at f t i memory = length-set-cond memory (wordOf (getD at i 0)) (f i (wordAt at memory i)) (has t i)
+
+pub length-changes : (W : ℕ) (at : List ℕ) (f : ℕ → ℕ → ℕ) (t : ℕ) (memory : List ℕ) → length (changesOf W at f t memory) ≡ length memory
+unfolding changesOf
+length-changes W at f t memory = length-inOrder (changeTurn at f t) (λ i l. length-change-turn at f t i l) W memory

@@ -2,9 +2,10 @@
 use mathlib.Core.Path.{_≡_, refl, sym, ap, ap₂, _∙_}
 use mathlib.Core.Bool.{Bool, true, false, not, _&&_, cond, and-false}
 use Prim.Native.Nat.{ℕ, _<_}
-use lib.Dec.{eqb}
+use lib.Dec.{eqb, ltb}
 use Rattle.lanes.specs.Sets.{has, setOf}
 use Rattle.lanes.proofs.Bits.{set-of-same}
+use Rattle.lanes.proofs.Members.{has-set-of}
 use Rattle.lanes.proofs.Picking.{set-of-none}
 use Rattle.words.specs.declared.instr.TwoOp.{TwoOp}
 use Rattle.words.specs.declared.instr.Space.{Space}
@@ -22,6 +23,11 @@ lanes-same : (W t : ℕ) (f g : ℕ → ℕ) (k : ℕ) → ((i : ℕ) → i < W 
 unfolding faultLanes
 lanes-same W t f g k h = lanes-by W t f k (λ i. eqb (g i) k) (λ i b. ap (λ (x : ℕ). eqb x k) (h i b))
 
+-- no lane executes
+pub lanes-idle : (W t : ℕ) (kind : ℕ → ℕ) (k : ℕ) → ((i : ℕ) → has t i ≡ false) → faultLanes W t kind k ≡ 0
+unfolding faultLanes
+lanes-idle W t kind k h = set-of-none W _ (λ i b. rw (h i) refl)
+
 -- no lane has a kind
 pub lanes-none : (W t : ℕ) (kind : ℕ → ℕ) (k : ℕ) → ((i : ℕ) → i < W → eqb (kind i) k ≡ false) → faultLanes W t kind k ≡ 0
 unfolding faultLanes
@@ -29,6 +35,11 @@ lanes-none W t kind k h = set-of-none W _ (λ i b. ap (λ (q : Bool). has t i &&
 
 pub faults-same : (a b c d a′ b′ c′ d′ : ℕ) → a ≡ a′ → b ≡ b′ → c ≡ c′ → d ≡ d′ → faults a b c d ≡ faults a′ b′ c′ d′
 faults-same a b c d a′ b′ c′ d′ p q r s = rw (p, q, r, s) refl
+
+-- the lanes of a kind are below W, execute, and are told by the lane's number
+pub has-fault : (W t : ℕ) (kind : ℕ → ℕ) (k i : ℕ) → has (faultLanes W t kind k) i ≡ (ltb i W && (has t i && eqb (kind i) k))
+unfolding faultLanes
+has-fault W t kind k i = has-set-of W (λ j. has t j && eqb (kind j) k) i
 
 -- kinds that agree below W
 pub kinds-same : (W t : ℕ) (f g : ℕ → ℕ) → ((i : ℕ) → i < W → f i ≡ g i) → kindsOf W t f ≡ kindsOf W t g
@@ -70,26 +81,36 @@ not-divisor Space.Device false true = refl
 not-divisor Space.Local false true = refl
 not-divisor s false false = refl
 
-module _ (W t words : ℕ) (at : ℕ → ℕ) (odd past : ℕ) (o : odd ≡ setOf W (λ i. has t i && isOdd (at i)))
-    (p : past ≡ setOf W (λ i. has t i && (not (isOdd (at i)) && isPast words (at i)))) where
-  odd-lanes : (s : Space) → odd ≡ faultLanes W t (λ i. addressFault s words (at i)) 1
-  odd-lanes s = o ∙ sym (lanes-by W t _ 1 _ (λ i b. odd-kind s (isOdd (at i)) (isPast words (at i))))
+-- the kinds that addresses have, by the memory
+module _ (W t words : ℕ) (at : ℕ → ℕ) where
+  abbrev kindIn : Space → ℕ → ℕ
+  kindIn s i = addressFault s words (at i)
 
-  past-lanes : (s : Space) → past ≡ faultLanes W t (λ i. addressFault s words (at i)) (pastKind s)
-  past-lanes s = p ∙ sym (lanes-by W t _ (pastKind s) _ (λ i b. past-kind s (isOdd (at i)) (isPast words (at i))))
+  none-divide : (s : Space) → faultLanes W t (kindIn s) 4 ≡ 0
+  none-divide s = lanes-none W t _ 4 (λ i b. not-divisor s (isOdd (at i)) (isPast words (at i)))
 
-  none-divide : (s : Space) → 0 ≡ faultLanes W t (λ i. addressFault s words (at i)) 4
-  none-divide s = sym (lanes-none W t _ 4 (λ i b. not-divisor s (isOdd (at i)) (isPast words (at i))))
+  pub device-form : kindsOf W t (kindIn Space.Device) ≡ faults (faultLanes W t (kindIn Space.Device) 1) (faultLanes W t (kindIn Space.Device) 2) 0 0
+  device-form =
+      faults-same _ _ _ _ _ _ 0 0 refl refl (lanes-none W t _ 3 (λ i b. not-local (isOdd (at i)) (isPast words (at i)))) (none-divide Space.Device)
 
-  pub device-kinds : faults odd past 0 0 ≡ kindsOf W t (λ i. addressFault Space.Device words (at i))
-  device-kinds =
-      faults-same odd past 0 0 _ _ _ _ (odd-lanes Space.Device) (past-lanes Space.Device)
-      (sym (lanes-none W t _ 3 (λ i b. not-local (isOdd (at i)) (isPast words (at i))))) (none-divide Space.Device)
+  pub local-form : kindsOf W t (kindIn Space.Local) ≡ faults (faultLanes W t (kindIn Space.Local) 1) 0 (faultLanes W t (kindIn Space.Local) 3) 0
+  local-form =
+      faults-same _ _ _ _ _ 0 _ 0 refl (lanes-none W t _ 2 (λ i b. not-device (isOdd (at i)) (isPast words (at i)))) refl (none-divide Space.Local)
 
-  pub local-kinds : faults odd 0 past 0 ≡ kindsOf W t (λ i. addressFault Space.Local words (at i))
-  local-kinds =
-      faults-same odd 0 past 0 _ _ _ _ (odd-lanes Space.Local)
-      (sym (lanes-none W t _ 2 (λ i b. not-device (isOdd (at i)) (isPast words (at i))))) (past-lanes Space.Local) (none-divide Space.Local)
+  -- from the code's two tests
+  module _ (odd past : ℕ) (o : odd ≡ setOf W (λ i. has t i && isOdd (at i)))
+      (p : past ≡ setOf W (λ i. has t i && (not (isOdd (at i)) && isPast words (at i)))) where
+    odd-lanes : (s : Space) → odd ≡ faultLanes W t (kindIn s) 1
+    odd-lanes s = o ∙ sym (lanes-by W t _ 1 _ (λ i b. odd-kind s (isOdd (at i)) (isPast words (at i))))
+
+    past-lanes : (s : Space) → past ≡ faultLanes W t (kindIn s) (pastKind s)
+    past-lanes s = p ∙ sym (lanes-by W t _ (pastKind s) _ (λ i b. past-kind s (isOdd (at i)) (isPast words (at i))))
+
+    pub device-kinds : faults odd past 0 0 ≡ kindsOf W t (kindIn Space.Device)
+    device-kinds = faults-same odd past 0 0 _ _ 0 0 (odd-lanes Space.Device) (past-lanes Space.Device) refl refl ∙ sym device-form
+
+    pub local-kinds : faults odd 0 past 0 ≡ kindsOf W t (kindIn Space.Local)
+    local-kinds = faults-same odd 0 past 0 _ 0 _ 0 (odd-lanes Space.Local) refl (past-lanes Space.Local) refl ∙ sym local-form
 
 -- ---- divisors
 
@@ -109,17 +130,24 @@ no-kinds W t kind h =
     (sym (lanes-none W t kind 3 (λ i b. rw (h i b) refl))) (sym (lanes-none W t kind 4 (λ i b. rw (h i b) refl)))
 
 module _ (W t : ℕ) (o : TwoOp) (at : ℕ → ℕ) where
+  abbrev kindAt : ℕ → ℕ
+  kindAt i = divisorFault o (at i)
+
   bad : ℕ → Bool
   bad i = divides o && eqb (at i) 0
 
-  pub divisor-kinds : (set : ℕ) → set ≡ setOf W (λ i. has t i && eqb (at i) 0) → divides o ≡ true
-      → faults 0 0 0 set ≡ kindsOf W t (λ i. divisorFault o (at i))
+  pub divisor-form : kindsOf W t kindAt ≡ faults 0 0 0 (faultLanes W t kindAt 4)
+  unfolding bad
+  divisor-form =
+      faults-same _ _ _ _ 0 0 0 _ (lanes-none W t _ 1 (λ i b. no-other (bad i) .0)) (lanes-none W t _ 2 (λ i b. no-other (bad i) .1))
+      (lanes-none W t _ 3 (λ i b. no-other (bad i) .2)) refl
+
+  -- from the code's test of the divisors
+  pub divisor-kinds : (set : ℕ) → set ≡ setOf W (λ i. has t i && eqb (at i) 0) → divides o ≡ true → faults 0 0 0 set ≡ kindsOf W t kindAt
   unfolding bad
   divisor-kinds set z e =
-      faults-same 0 0 0 set _ _ _ _
-      (sym (lanes-none W t _ 1 (λ i b. no-other (bad i) .0))) (sym (lanes-none W t _ 2 (λ i b. no-other (bad i) .1)))
-      (sym (lanes-none W t _ 3 (λ i b. no-other (bad i) .2)))
-      (z ∙ sym (lanes-by W t _ 4 _ (λ i b. divisor-kind (bad i) ∙ rw e refl)))
+      faults-same 0 0 0 set 0 0 0 _ refl refl refl (z ∙ sym (lanes-by W t _ 4 _ (λ i b. divisor-kind (bad i) ∙ rw e refl)))
+      ∙ sym divisor-form
 
-  pub undivided-kinds : divides o ≡ false → faults 0 0 0 0 ≡ kindsOf W t (λ i. divisorFault o (at i))
+  pub undivided-kinds : divides o ≡ false → faults 0 0 0 0 ≡ kindsOf W t kindAt
   undivided-kinds e = no-kinds W t _ (λ i b. rw e refl)

@@ -7,3 +7,5 @@ pub mod FaultKinds
 pub mod Standing
 pub mod Arms
 pub mod Carrying
+pub mod FaultLanes
+pub mod OneAnswer

@@ -1,6 +1,7 @@
 -- What was lent is changed where no lane faults and else as before: from what the code tests, and from other names of the parts.
 use mathlib.Core.Path.{_≡_, refl, sym, ap, ap₂, _∙_}
 use mathlib.Core.Bool.{Bool, true, false, cond}
+use Rattle.ground.proofs.Choices.{cond-ap, cond-ap₂}
 use Rattle.compute.specs.declared.Faults.{Faults}
 use Rattle.compute.specs.Faulting.{clear}
 use Rattle.compute.specs.Classes.{Settled}
@@ -23,23 +24,15 @@ settled-as {A} {faults} {answer} {changed} {before} {after} h faults′ changed�
       left = h .left ∙ ap (λ (x : Faults). cond (clear x) changed before) e ∙ ap (λ (x : A). cond (clear faults′) x before) f;
     }
 
-cond-ap : {A B : Type 0} (f : A → B) (b : Bool) (x y : A) → f (cond b x y) ≡ cond b (f x) (f y)
-cond-ap f true x y = refl
-cond-ap f false x y = refl
-
 -- what is lent is part of something larger
 pub settled-within : {A B : Type 0} {faults answer : Faults} {changed before after : A} (f : A → B) → Settled faults changed answer before after
     → Settled faults (f changed) answer (f before) (f after)
 settled-within {A} {B} {faults} {answer} {changed} {before} f h =
     record { answered = h .answered; left = ap f (h .left) ∙ cond-ap f (clear faults) changed before }
 
-cond-both : {A B C : Type 0} (f : A → B → C) (b : Bool) (x y : A) (v w : B) → f (cond b x y) (cond b v w) ≡ cond b (f x v) (f y w)
-cond-both f true x y v w = refl
-cond-both f false x y v w = refl
-
 -- two parts of something
 pub settled-both : {A B C : Type 0} {faults answer : Faults} {changed before after : A} {changed′ before′ after′ : B} (f : A → B → C)
     → Settled faults changed answer before after → Settled faults changed′ answer before′ after′
     → Settled faults (f changed changed′) answer (f before before′) (f after after′)
 settled-both {A} {B} {C} {faults} {answer} {changed} {before} {after} {changed′} {before′} f h k =
-    record { answered = h .answered; left = ap₂ f (h .left) (k .left) ∙ cond-both f (clear faults) changed before changed′ before′ }
+    record { answered = h .answered; left = ap₂ f (h .left) (k .left) ∙ cond-ap₂ f (clear faults) changed before changed′ before′ }

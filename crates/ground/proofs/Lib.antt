@@ -3,3 +3,4 @@ pub mod Lists
 pub mod Numbers
 pub mod Tests
 pub mod Turns
+pub mod Choices

@@ -1,7 +1,7 @@
 -- A loop whose turn i changes a list as number i does: at turn i the list is what the numbers below i made of it.
 use mathlib.Core.Path.{_≡_, refl, ap, _∙_}
 use mathlib.Core.List.{List}
-use Prim.Native.Nat.{ℕ, _+_, _≤_, _<_}
+use Prim.Native.Nat.{ℕ, zero, suc, _+_, _≤_, _<_}
 use native.Mathlib.Omega.{arith}
 use lib.ListN.{length}
 use Rattle.ground.specs.Lists.{inOrder}
@@ -26,3 +26,9 @@ turned-all {n} {f} {before} {now} {i} t b =
 pub length-turned : {n : ℕ} {f : ℕ → List ℕ → List ℕ} {before now : List ℕ} {i : ℕ} → ((k : ℕ) (l : List ℕ) → length (f k l) ≡ length l)
     → Turned n f before now i → length now ≡ length before
 length-turned {n} {f} {before} {now} {i} h t = ap length (t .made) ∙ length-inOrder f h i before
+
+-- turns that change nothing
+pub inOrder-idle : (n : ℕ) (f : ℕ → List ℕ → List ℕ) → ((k : ℕ) (l : List ℕ) → f k l ≡ l) → (l : List ℕ) → inOrder n f l ≡ l
+unfolding inOrder
+inOrder-idle zero f h l = refl
+inOrder-idle (suc n) f h l = h n (inOrder n f l) ∙ inOrder-idle n f h l
