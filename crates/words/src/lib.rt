@@ -1,4 +1,5 @@
 // The words: instructions from words, and words from instructions.
+pub mod fetching;
 pub mod forms;
 pub mod instr;
 pub mod reading;

@@ -28,7 +28,7 @@ const SECOND: u32 = 5;
 const FIELD: u32 = 6;
 
 // The word at a place, 0 past the end.
-fn word_at(words: &[u32], at: usize) -> u32
+pub(crate) fn word_at(words: &[u32], at: usize) -> u32
     ensures { λ r. ⌜ r ≡ getD (now (words .entry)) at 0 ⌝ }
 {
     if at < words.len() { words[at] } else { 0 }
@@ -61,7 +61,7 @@ fn headed(op: Op, first: u32, rs2: u8, rs3: u8, scope: u8, number: u32) -> Instr
 }
 
 // The instruction of both words; `word` counts only where there is a second word.
-fn instr_in(second: Second, op: Op, first: u32, word: u32) -> Instr
+pub(crate) fn instr_in(second: Second, op: Op, first: u32, word: u32) -> Instr
     ensures { λ r. ⌜ r ≡ instrIn second op first word ⌝ }
 {
     match second {

@@ -1,0 +1,11 @@
+pub mod Slots
+pub mod Lanewise
+pub mod Writing
+pub mod Changing
+pub mod Settling
+pub mod FaultKinds
+pub mod Standing
+pub mod Arms
+pub mod Carrying
+pub mod FaultLanes
+pub mod OneAnswer

@@ -1,0 +1,89 @@
+-- `compute::classes::carry_change` meets its contract: the atomics at the addresses and the old words written, by what `clear` told of
+-- the faults.
+use mathlib.Core.Path.{_≡_, ap, _∙_}
+use mathlib.Core.List.{List}
+use Prim.Native.Nat.{ℕ}
+use lib.ListN.{length, getD}
+use borrow.Author.Needs.{needs}
+use Rattle.words.specs.declared.instr.Space.{Space}
+use Rattle.compute.specs.Registers.{byLane, gatherOf, writeLanes}
+use Rattle.compute.specs.Memory.{changesOf, oldOf}
+use Rattle.compute.specs.Lanewise.{changeTo}
+use Rattle.compute.specs.Classes.{addressFaults}
+use Rattle.compute.proofs.Settling.{settled-changed, settled-same}
+use Rattle.compute.proofs.classes.carry_change.Statement.{statement}
+use Rattle.compute.proofs.classes.carry_change.Tie as tie
+
+-- the faults are those at the addresses
+faults-are : (z : tie.After-address-faults)
+    → let a = z .before .before .before .before .before .args in
+    z .address-faults .result
+    ≡ addressFaults Space.Device (a .shape .width) (gatherOf (a .shape) (a .regs .now) (a .rs1)) (length (a .device .now)) (a .t)
+faults-are z =
+    let a = z .before .before .before .before .before .args in
+    z .address-faults .ensures
+    ∙ ap (λ (at : List ℕ). addressFaults Space.Device (a .shape .width) at (length (a .device .now)) (a .t)) (z .before .gather .ensures)
+
+gather-requires : tie.Need-gather-requires
+gather-requires c κs = search needs
+
+address-faults-requires : tie.Need-address-faults-requires
+address-faults-requires c κs = search needs
+
+clear-requires : tie.Need-clear-requires
+clear-requires c κs = search needs
+
+change-lanes-requires : tie.Need-change-lanes-requires
+change-lanes-requires c κs = search needs
+
+write-lanes-requires : tie.Need-write-lanes-requires
+write-lanes-requires c κs = search needs
+
+same-length : tie.Need-same-length
+same-length c = search needs
+
+same-length-2 : tie.Need-same-length-2
+same-length-2 c = search needs
+
+returns : tie.Need-returns
+returns c = 
+    let w = c .before .before in
+    let v = w .before .before .before .before in
+    let i = v .before .before .before in
+    let z = i .before .before in
+    let a = z .before .before .before .before .before .args in
+    let f = changeTo (a .change) (a .shape) (a .regs .now) (a .rs2) (a .rs3) in (
+      settled-changed _ _ _ (faults-are z) (i .before .clear .ensures) _ _ _ (i .if1 .taken)
+          (w .write-lanes .ensures
+          ∙ ap (λ (l : List ℕ). writeLanes (a .shape) (a .regs .now) (a .rd) (a .t) l)
+          (v .change-lanes .ensures .0
+          ∙ ap (λ (at : List ℕ). byLane (a .shape .width) (oldOf at f (a .t) (a .device .now))) (z .before .gather .ensures))),
+      settled-changed _ _ _ (faults-are z) (i .before .clear .ensures) _ _ _ (i .if1 .taken)
+          (v .change-lanes .ensures .1
+          ∙ ap (λ (at : List ℕ). changesOf (a .shape .width) at f (a .t) (a .device .now)) (z .before .gather .ensures)),
+    )
+
+same-length-3 : tie.Need-same-length-3
+same-length-3 c = search needs
+
+returns-2 : tie.Need-returns-2
+returns-2 c = 
+    let t = c .before in (
+      settled-same _ _ _ (faults-are (t .before)) (t .clear .ensures) _ _ (c .if1 .left),
+      settled-same _ _ _ (faults-are (t .before)) (t .clear .ensures) _ _ (c .if1 .left),
+    )
+
+pub carry-change-spec : {M : Type 1} → statement M
+carry-change-spec =
+    tie.close
+    (tie.spec
+    gather-requires
+    address-faults-requires
+    clear-requires
+    change-lanes-requires
+    write-lanes-requires
+    same-length
+    same-length-2
+    returns
+    same-length-3
+    returns-2)

@@ -1,0 +1,51 @@
+-- `compute::classes::load_through` meets its contract: the writer's, of the words and faults at the addresses.
+use mathlib.Core.Path.{ap, _∙_}
+use mathlib.Core.List.{List}
+use Prim.Native.Nat.{ℕ}
+use lib.ListN.{length}
+use borrow.Author.Needs.{needs}
+use Rattle.compute.specs.Registers.{writeLanes}
+use Rattle.compute.specs.Lanewise.{loadLanes}
+use Rattle.compute.specs.Classes.{addressFaults}
+use Rattle.compute.proofs.Settling.{settled-as}
+use Rattle.compute.proofs.classes.load_through.Statement.{statement}
+use Rattle.compute.proofs.classes.load_through.Tie as tie
+
+addresses-requires : tie.Need-addresses-requires
+addresses-requires c κs = search needs
+
+address-faults-requires : tie.Need-address-faults-requires
+address-faults-requires c κs = search needs
+
+load-lanes-requires : tie.Need-load-lanes-requires
+load-lanes-requires c κs = search needs
+
+write-results-requires : tie.Need-write-results-requires
+write-results-requires c κs = search needs
+
+same-length : tie.Need-same-length
+same-length c = search needs
+
+returns : tie.Need-returns
+returns c = 
+    let w = c .before .before in
+    let v = w .before .before in
+    let f = v .before in
+    let z = f .before in
+    let a = z .before .before .before .before .args in
+    settled-as (w .write-results .ensures) _ _
+    (f .address-faults .ensures
+    ∙ ap (λ (at : List ℕ). addressFaults (a .space) (a .shape .width) at (length (a .memory .now)) (a .t)) (z .addresses .ensures))
+    (ap (λ (l : List ℕ). writeLanes (a .shape) (a .regs .now) (a .rd) (a .t) l)
+    (v .load-lanes .ensures ∙ ap (λ (at : List ℕ). loadLanes (a .shape .width) at (a .memory .now)) (z .addresses .ensures)))
+
+pub load-through-spec : {M : Type 1} → statement M
+load-through-spec =
+    tie.close
+    (tie.spec
+    addresses-requires
+    address-faults-requires
+    load-lanes-requires
+    write-results-requires
+    same-length
+    returns)

@@ -1,0 +1,63 @@
+-- `compute::classes::store_through` meets its contract: the stores at the addresses, by what `clear` told of their faults.
+use mathlib.Core.Path.{_≡_, ap, _∙_}
+use mathlib.Core.List.{List}
+use Prim.Native.Nat.{ℕ}
+use lib.ListN.{length, getD}
+use borrow.Author.Needs.{needs}
+use Rattle.compute.specs.Registers.{gatherOf}
+use Rattle.compute.specs.Memory.{addressesOf, changesOf}
+use Rattle.compute.specs.Classes.{addressFaults}
+use Rattle.compute.proofs.Settling.{settled-changed, settled-same}
+use Rattle.compute.proofs.classes.store_through.Statement.{statement}
+use Rattle.compute.proofs.classes.store_through.Tie as tie
+
+-- the faults are those at the addresses
+faults-are : (z : tie.After-address-faults)
+    → let a = z .before .before .before .before .args in
+    z .address-faults .result
+    ≡ addressFaults (a .space) (a .shape .width) (addressesOf (a .shape .width) (gatherOf (a .shape) (a .regs .now) (a .rs1)) (a .offset)) (length (a .memory .now)) (a .t)
+faults-are z =
+    let a = z .before .before .before .before .args in
+    z .address-faults .ensures
+    ∙ ap (λ (at : List ℕ). addressFaults (a .space) (a .shape .width) at (length (a .memory .now)) (a .t)) (z .before .addresses .ensures)
+
+addresses-requires : tie.Need-addresses-requires
+addresses-requires c κs = search needs
+
+address-faults-requires : tie.Need-address-faults-requires
+address-faults-requires c κs = search needs
+
+clear-requires : tie.Need-clear-requires
+clear-requires c κs = search needs
+
+store-lanes-requires : tie.Need-store-lanes-requires
+store-lanes-requires c κs = search needs
+
+same-length : tie.Need-same-length
+same-length c = search needs
+
+returns : tie.Need-returns
+returns c = 
+    let w = c .before .before in
+    let t = w .before .before .before in
+    let z = t .before in
+    let a = z .before .before .before .before .args in
+    settled-changed _ _ _ (faults-are z) (t .clear .ensures) _ _ _ (w .before .before .if1 .taken)
+    (w .store-lanes .ensures
+    ∙ ap (λ (at : List ℕ). changesOf (a .shape .width) at (λ i old. getD (gatherOf (a .shape) (a .regs .now) (a .rd)) i 0) (a .t) (a .memory .now))
+    (z .before .addresses .ensures))
+
+returns-2 : tie.Need-returns-2
+returns-2 c = settled-same _ _ _ (faults-are (c .before .before)) (c .before .clear .ensures) _ _ (c .if1 .left)
+
+pub store-through-spec : {M : Type 1} → statement M
+store-through-spec =
+    tie.close
+    (tie.spec
+    addresses-requires
+    address-faults-requires
+    clear-requires
+    store-lanes-requires
+    same-length
+    returns
+    returns-2)

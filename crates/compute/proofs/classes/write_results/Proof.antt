@@ -1,0 +1,34 @@
+-- `compute::classes::write_results` meets its contract, by what `clear` told.
+use mathlib.Core.Path.{refl}
+use borrow.Author.Needs.{needs}
+use Rattle.compute.proofs.Settling.{settled-changed, settled-same}
+use Rattle.compute.proofs.classes.write_results.Statement.{statement}
+use Rattle.compute.proofs.classes.write_results.Tie as tie
+
+clear-requires : tie.Need-clear-requires
+clear-requires c κs = search needs
+
+write-lanes-requires : tie.Need-write-lanes-requires
+write-lanes-requires c κs = search needs
+
+same-length : tie.Need-same-length
+same-length c = search needs
+
+returns : tie.Need-returns
+returns c = 
+    let w = c .before .before in
+    let z = w .before .before .before in
+    settled-changed _ _ _ refl (z .clear .ensures) _ _ _ (w .before .before .if1 .taken) (w .write-lanes .ensures)
+
+returns-2 : tie.Need-returns-2
+returns-2 c = settled-same _ _ _ refl (c .before .clear .ensures) _ _ (c .if1 .left)
+
+pub write-results-spec : {M : Type 1} → statement M
+write-results-spec =
+    tie.close
+    (tie.spec
+    clear-requires
+    write-lanes-requires
+    same-length
+    returns
+    returns-2)

@@ -1,0 +1,109 @@
+-- `compute::comparisons::compare_lanes` meets its contract: at turn i the lanes below i have their results.
+use mathlib.Core.Path.{_≡_, ap, ap₂, _∙_}
+use mathlib.Core.Bool.{Bool, cond}
+use Prim.Native.Nat.{ℕ, _-_, _<_}
+use native.Mathlib.Omega.{arith}
+use lib.ListN.{length, getD}
+use borrow.Author.Needs.{needs}
+use Rattle.arith.specs.Arith.{compareOf}
+use Rattle.compute.specs.Registers.{gatherOf}
+use Rattle.compute.specs.Lanewise.{compareLanes}
+use Rattle.compute.proofs.Slots.{slot-in}
+use Rattle.compute.proofs.Lanewise.{read-gathered, Filled, filled-none, filled-more, filled-all}
+use Rattle.compute.proofs.comparisons.compare_lanes.Statement.{statement}
+use Rattle.compute.proofs.comparisons.compare_lanes.Tie as tie
+
+abbrev Inv-loop : tie.InvT-loop
+Inv-loop op shape regs rs1 rs2 out₀ width i₀ out i =
+    Filled (shape .width) (λ j. cond (compareOf op (getD (gatherOf shape regs rs1) j 0) (getD (gatherOf shape regs rs2) j 0)) 1 0) out i
+
+abbrev μ-loop : tie.MeasureT-loop
+μ-loop op shape regs rs1 rs2 out₀ width i₀ out i = width - i
+
+-- both registers of the lane stand in the buffer
+inside : (z : tie.After-slot2 Inv-loop μ-loop) → z .before .slot .result < length (z .before .before .before .before .before .args .regs .now)
+inside z = slot-in (z .before .before .before .before .before .pre .0) _ _ (z .before .slot .ensures) (omega arith)
+
+inside-second : (z : tie.After-slot2 Inv-loop μ-loop) → z .slot2 .result < length (z .before .before .before .before .before .args .regs .now)
+inside-second z = slot-in (z .before .before .before .before .before .pre .1) _ _ (z .slot2 .ensures) (omega arith)
+
+loop-holds : tie.Need-loop-holds Inv-loop μ-loop
+loop-holds c = filled-none _ (c .before .pre .0 .narrow)
+
+slot-requires : tie.Need-slot-requires Inv-loop μ-loop
+slot-requires c κs = search needs
+
+slot-requires-2 : tie.Need-slot-requires-2 Inv-loop μ-loop
+slot-requires-2 c κs = search needs
+
+cast-k : tie.Need-cast-k Inv-loop μ-loop
+cast-k c = omega arith
+
+mul-compare : tie.Need-mul-compare Inv-loop μ-loop
+mul-compare c = let h = inside c in omega arith
+
+shared-slice-read-compare : tie.Need-shared-slice-read-compare Inv-loop μ-loop
+shared-slice-read-compare c = inside (c .before)
+
+mul-compare-2 : tie.Need-mul-compare-2 Inv-loop μ-loop
+mul-compare-2 c = let h = inside-second (c .before) in omega arith
+
+shared-slice-read-compare-2 : tie.Need-shared-slice-read-compare-2 Inv-loop μ-loop
+shared-slice-read-compare-2 c = inside-second (c .before .before)
+
+compare-requires : tie.Need-compare-requires Inv-loop μ-loop
+compare-requires c κs = search needs
+
+chosen-requires : tie.Need-chosen-requires Inv-loop μ-loop
+chosen-requires c κs = search needs
+
+mul-out : tie.Need-mul-out Inv-loop μ-loop
+mul-out c = omega arith
+
+array-write-out : tie.Need-array-write-out Inv-loop μ-loop
+array-write-out c = omega arith
+
+add-i : tie.Need-add-i Inv-loop μ-loop
+add-i c = omega arith
+
+loop-less : tie.Need-loop-less Inv-loop μ-loop
+loop-less c = omega arith
+
+loop-again : tie.Need-loop-again Inv-loop μ-loop
+loop-again c = 
+    let z = c .before .before .before .before in
+    let h = z .before .before .before in
+    let p = h .before .before .pre in
+    filled-more (h .loop .inv) (omega arith) _
+    (c .chosen .ensures
+    ∙ ap (λ (t : Bool). cond t 1 0) (c .before .compare .ensures)
+    ∙ ap₂ (λ (x y : ℕ). cond (compareOf (h .before .before .args .op) x y) 1 0)
+    (read-gathered (p .0) _ _ (z .before .slot .ensures) (omega arith))
+    (read-gathered (p .1) _ _ (z .slot2 .ensures) (omega arith)))
+
+returns : tie.Need-returns Inv-loop μ-loop
+unfolding compareLanes
+returns c = filled-all (c .before .loop .inv) (omega arith)
+
+pub compare-lanes-spec : {M : Type 1} → statement M
+compare-lanes-spec =
+    tie.close
+    (tie.spec
+    Inv-loop
+    μ-loop
+    loop-holds
+    slot-requires
+    slot-requires-2
+    cast-k
+    mul-compare
+    shared-slice-read-compare
+    mul-compare-2
+    shared-slice-read-compare-2
+    compare-requires
+    chosen-requires
+    mul-out
+    array-write-out
+    add-i
+    loop-less
+    loop-again
+    returns)

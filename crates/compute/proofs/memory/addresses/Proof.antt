@@ -1,0 +1,81 @@
+-- `compute::memory::addresses` meets its contract: at turn i the lanes below i have their results.
+use mathlib.Core.Path.{_≡_, ap, _∙_}
+use Prim.Native.Nat.{ℕ, _-_, _<_}
+use native.Mathlib.Omega.{arith}
+use lib.ListN.{length, getD}
+use borrow.Author.Needs.{needs}
+use Rattle.arith.specs.Arith.{addressOf}
+use Rattle.compute.specs.Registers.{gatherOf}
+use Rattle.compute.proofs.Slots.{slot-in}
+use Rattle.compute.proofs.Lanewise.{read-gathered, Filled, filled-none, filled-more, filled-all}
+use Rattle.compute.proofs.memory.addresses.Statement.{statement}
+use Rattle.compute.proofs.memory.addresses.Tie as tie
+
+abbrev Inv-loop : tie.InvT-loop
+Inv-loop shape regs rs1 offset out₀ width i₀ out i = Filled (shape .width) (λ j. addressOf (getD (gatherOf shape regs rs1) j 0) offset) out i
+
+abbrev μ-loop : tie.MeasureT-loop
+μ-loop shape regs rs1 offset out₀ width i₀ out i = width - i
+
+-- the lane's register stands in the buffer
+inside : (z : tie.After-slot Inv-loop μ-loop) → z .slot .result < length (z .before .before .before .before .args .regs .now)
+inside z = slot-in (z .before .before .before .before .pre) _ _ (z .slot .ensures) (omega arith)
+
+loop-holds : tie.Need-loop-holds Inv-loop μ-loop
+loop-holds c = filled-none _ (c .before .pre .narrow)
+
+slot-requires : tie.Need-slot-requires Inv-loop μ-loop
+slot-requires c κs = search needs
+
+cast-k : tie.Need-cast-k Inv-loop μ-loop
+cast-k c = omega arith
+
+mul-address : tie.Need-mul-address Inv-loop μ-loop
+mul-address c = let h = inside c in omega arith
+
+shared-slice-read-address : tie.Need-shared-slice-read-address Inv-loop μ-loop
+shared-slice-read-address c = inside (c .before)
+
+address-requires : tie.Need-address-requires Inv-loop μ-loop
+address-requires c κs = search needs
+
+mul-out : tie.Need-mul-out Inv-loop μ-loop
+mul-out c = omega arith
+
+array-write-out : tie.Need-array-write-out Inv-loop μ-loop
+array-write-out c = omega arith
+
+add-i : tie.Need-add-i Inv-loop μ-loop
+add-i c = omega arith
+
+loop-less : tie.Need-loop-less Inv-loop μ-loop
+loop-less c = omega arith
+
+loop-again : tie.Need-loop-again Inv-loop μ-loop
+loop-again c = 
+    let z = c .before .before in
+    let h = z .before .before in
+    filled-more (h .loop .inv) (omega arith) _
+    (c .address .ensures ∙ ap (λ (x : ℕ). addressOf x (h .before .before .args .offset)) (read-gathered (h .before .before .pre) _ _ (z .slot .ensures) (omega arith)))
+
+returns : tie.Need-returns Inv-loop μ-loop
+returns c = filled-all (c .before .loop .inv) (omega arith)
+
+pub addresses-spec : {M : Type 1} → statement M
+addresses-spec =
+    tie.close
+    (tie.spec
+    Inv-loop
+    μ-loop
+    loop-holds
+    slot-requires
+    cast-k
+    mul-address
+    shared-slice-read-address
+    address-requires
+    mul-out
+    array-write-out
+    add-i
+    loop-less
+    loop-again
+    returns)

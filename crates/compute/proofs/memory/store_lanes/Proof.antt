@@ -1,0 +1,103 @@
+-- `compute::memory::store_lanes` meets its contract: at turn i the lanes below i have stored.
+use mathlib.Core.Path.{_≡_, refl, _∙_}
+use mathlib.Core.List.{List}
+use Prim.Native.Nat.{ℕ, _-_, _<_}
+use native.Mathlib.Omega.{arith}
+use lib.ListN.{length, getD}
+use borrow.Author.Needs.{needs}
+use Rattle.ground.proofs.Turns.{Turned, turned-none, turned-more, turned-all, length-turned}
+use Rattle.compute.specs.declared.Shape.{Shape}
+use Rattle.compute.specs.Registers.{gatherOf}
+use Rattle.compute.specs.Memory.{changeTurn, changesOf}
+use Rattle.compute.proofs.Slots.{slot-in}
+use Rattle.compute.proofs.Lanewise.{read-gathered}
+use Rattle.compute.proofs.Changing.{change-turn, length-change-turn}
+use Rattle.compute.proofs.memory.store_lanes.Statement.{statement}
+use Rattle.compute.proofs.memory.store_lanes.Tie as tie
+
+-- what lane i leaves of the word that it finds
+abbrev value : Shape → List ℕ → ℕ → ℕ → ℕ → ℕ
+value shape regs rd i old = getD (gatherOf shape regs rd) i 0
+
+abbrev Inv-loop : tie.InvT-loop
+Inv-loop t rd shape regs memory₀ at width i₀ memory i = Turned (shape .width) (changeTurn at (value shape regs rd) t) memory₀ memory i
+
+abbrev μ-loop : tie.MeasureT-loop
+μ-loop t rd shape regs memory₀ at width i₀ memory i = width - i
+
+-- the lane's register stands in the buffer
+inside : (z : tie.After-slot Inv-loop μ-loop) → z .slot .result < length (z .before .before .before .before .before .args .regs .now)
+inside z = slot-in (z .before .before .before .before .before .pre) _ _ (z .slot .ensures) (omega arith)
+
+loop-holds : tie.Need-loop-holds Inv-loop μ-loop
+loop-holds c = turned-none _ _
+
+slot-requires : tie.Need-slot-requires Inv-loop μ-loop
+slot-requires c κs = search needs
+
+cast-k : tie.Need-cast-k Inv-loop μ-loop
+cast-k c = omega arith
+
+mul-word-left : tie.Need-mul-word-left Inv-loop μ-loop
+mul-word-left c = omega arith
+
+array-read-word-left : tie.Need-array-read-word-left Inv-loop μ-loop
+array-read-word-left c = omega (arith, c .before .before .before .before .before .before .pre .narrow)
+
+mul-word-left-2 : tie.Need-mul-word-left-2 Inv-loop μ-loop
+mul-word-left-2 c = let h = inside (c .before) in omega arith
+
+shared-slice-read-word-left : tie.Need-shared-slice-read-word-left Inv-loop μ-loop
+shared-slice-read-word-left c = inside (c .before .before)
+
+picks-requires : tie.Need-picks-requires Inv-loop μ-loop
+picks-requires c κs = omega (arith, c .before .before .before .before .before .before .before .pre .narrow)
+
+word-left-requires : tie.Need-word-left-requires Inv-loop μ-loop
+word-left-requires c κs = search needs
+
+add-i : tie.Need-add-i Inv-loop μ-loop
+add-i c = omega arith
+
+loop-less : tie.Need-loop-less Inv-loop μ-loop
+loop-less c = omega arith
+
+loop-again : tie.Need-loop-again Inv-loop μ-loop
+loop-again c = 
+    let w = c .before .before in
+    let z = w .before .before .before .before in
+    let h = z .before .before .loop in
+    let a = z .before .before .before .before .before .args in
+    turned-more (h .inv) (omega arith) _
+    (change-turn (a .t1) (value (a .shape) (a .regs .now) (a .rd)) (a .t) _ (h .memory) _ _ _ _ (w .before .picks .ensures) refl
+    (read-gathered (z .before .before .before .before .before .pre) _ _ (z .slot .ensures) (omega arith)) (w .word-left .ensures))
+
+same-length : tie.Need-same-length Inv-loop μ-loop
+same-length c = 
+    let a = c .before .before .before .before .args in
+    length-turned (length-change-turn (a .t1) (value (a .shape) (a .regs .now) (a .rd)) (a .t)) (c .before .loop .inv)
+
+returns : tie.Need-returns Inv-loop μ-loop
+unfolding changesOf
+returns c = turned-all (c .before .loop .inv) (omega arith)
+
+pub store-lanes-spec : {M : Type 1} → statement M
+store-lanes-spec =
+    tie.close
+    (tie.spec
+    Inv-loop
+    μ-loop
+    loop-holds
+    slot-requires
+    cast-k
+    mul-word-left
+    array-read-word-left
+    mul-word-left-2
+    shared-slice-read-word-left
+    picks-requires
+    word-left-requires
+    add-i
+    loop-less
+    loop-again
+    same-length
+    returns)

@@ -1,0 +1,24 @@
+-- `compute::registers::slot` meets its contract: a product of two numbers of 32 bits, and a number of 32 bits more, has 64.
+use mathlib.Core.Path.{refl}
+use native.Mathlib.Omega.{arith}
+use borrow.Author.Needs.{needs}
+use Rattle.compute.specs.Registers.{slot}
+use Rattle.compute.proofs.Slots.{slot-fits}
+use Rattle.compute.proofs.registers.slot.Statement.{statement}
+use Rattle.compute.proofs.registers.slot.Tie as tie
+
+cast-result : tie.Need-cast-result
+cast-result c = search needs
+
+mul-result : tie.Need-mul-result
+mul-result c = record { fits = omega (arith, slot-fits 32 (c .before .args .lane) (c .before .args .shape .registers) 0 (c .before .fits .lane .fits) (omega arith) (omega arith)) }
+
+add-result : tie.Need-add-result
+add-result c = record { fits = slot-fits 32 (c .before .args .lane) (c .before .args .shape .registers) (c .before .args .register) (c .before .fits .lane .fits) (omega arith) (omega arith) }
+
+returns : tie.Need-returns
+unfolding slot
+returns c = refl
+
+pub slot-spec : {M : Type 1} → statement M
+slot-spec = tie.close (tie.spec cast-result mul-result add-result returns)

@@ -1,0 +1,37 @@
+-- What the loops over the lanes give, of registers of the buffer: the results of one class of operations each.
+use Prim.Native.Nat.{ℕ}
+use mathlib.Core.Bool.{cond}
+use mathlib.Core.List.{List}
+use lib.ListN.{getD}
+use Rattle.words.specs.declared.instr.TwoOp.{TwoOp}
+use Rattle.words.specs.declared.instr.OneOp.{OneOp}
+use Rattle.words.specs.declared.instr.CompareOp.{CompareOp}
+use Rattle.arith.specs.Arith.{twoOf, oneOf, compareOf, atomicOf, swapOf}
+use Rattle.compute.specs.declared.Shape.{Shape}
+use Rattle.compute.specs.declared.memory.Change.{Change}
+use Rattle.compute.specs.Registers.{byLane, gatherOf}
+use Rattle.compute.specs.Memory.{wordAt}
+
+unfoldable pub twoLanes : TwoOp → Shape → List ℕ → ℕ → ℕ → List ℕ
+twoLanes o shape regs a b =
+    byLane (shape .width) (λ i. twoOf o (getD (gatherOf shape regs a) i 0) (getD (gatherOf shape regs b) i 0))
+
+unfoldable pub compareLanes : CompareOp → Shape → List ℕ → ℕ → ℕ → List ℕ
+compareLanes o shape regs a b =
+    byLane (shape .width) (λ i. cond (compareOf o (getD (gatherOf shape regs a) i 0) (getD (gatherOf shape regs b) i 0)) 1 0)
+
+unfoldable pub oneLanes : OneOp → Shape → List ℕ → ℕ → List ℕ
+oneLanes o shape regs a = byLane (shape .width) (λ i. oneOf o (getD (gatherOf shape regs a) i 0))
+
+-- the words that the addresses name
+unfoldable pub loadLanes : ℕ → List ℕ → List ℕ → List ℕ
+loadLanes W at memory = byLane W (wordAt at memory)
+
+-- what an atomic or CAS leaves of the old word
+abbrev pub changeOf : Change → ℕ → ℕ → ℕ → ℕ
+changeOf (Change.Atomic o) old b c = atomicOf o old b
+changeOf Change.Swap old b c = swapOf old b c
+
+abbrev pub changeTo : Change → Shape → List ℕ → ℕ → ℕ → ℕ → ℕ → ℕ
+changeTo change shape regs b c i old =
+    changeOf change old (getD (gatherOf shape regs b) i 0) (getD (gatherOf shape regs c) i 0)

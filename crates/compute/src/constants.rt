@@ -1,0 +1,37 @@
+// Results that no register decides: those of MOV_SPECIAL and MOV_IMM.
+ghost use mathlib.Core.Path.{_≡_};
+ghost use Prim.Native.Nat.{_≤_};
+ghost use Rattle.lanes.specs.Sets.{widest};
+ghost use Rattle.compute.specs.Registers.{byLane};
+ghost use Rattle.compute.specs.Values.{specialOf};
+use crate::masks::chosen;
+
+// What MOV_SPECIAL gives every lane.
+pub fn special_results(special: u8, width: u32) -> [u32; 32]
+    requires { ⌜ width ≤ widest ⌝ }
+    ensures { λ r. ⌜ r ≡ byLane width (specialOf special) ⌝ }
+{
+    let mut out = [0u32; 32];
+    let mut i: u32 = 0;
+    while i < width {
+        let k = i as usize;
+        out[k] = chosen(special == 0, i, chosen(special == 1, 0, 1));
+        i += 1;
+    }
+    out
+}
+
+// `number` for every lane.
+pub fn number_results(number: u32, width: u32) -> [u32; 32]
+    requires { ⌜ width ≤ widest ⌝ }
+    ensures { λ r. ⌜ r ≡ byLane width (λ i. number) ⌝ }
+{
+    let mut out = [0u32; 32];
+    let mut i: u32 = 0;
+    while i < width {
+        let k = i as usize;
+        out[k] = number;
+        i += 1;
+    }
+    out
+}

@@ -1,0 +1,132 @@
+// Which lanes fault, by kind.
+ghost use mathlib.Core.Path.{_≡_};
+ghost use mathlib.Core.Bool.{not, _&&_};
+ghost use Prim.Native.Nat.{_≤_};
+ghost use lib.Dec.{eqb};
+ghost use lib.ListN.{getD};
+ghost use Rattle.lanes.specs.Sets.{widest, has, setOf};
+ghost use Rattle.compute.specs.Registers.{Stands, gatherOf};
+ghost use Rattle.compute.specs.Faulting as kinds;
+ghost use Rattle.compute.specs.Faulting.{isOdd, isPast};
+ghost use Rattle.compute.specs.Classes.{addressFaults, divisorFaults};
+use crate::Faults;
+use crate::Shape;
+use crate::masks::marked;
+use crate::registers::slot;
+use lanes::Lanes;
+use words::instr::Space;
+use words::instr::TwoOp;
+
+// No fault.
+pub fn no_faults() -> Faults
+    ensures { λ r. ⌜ r ≡ kinds.faults 0 0 0 0 ⌝ }
+{
+    Faults {
+        odd: 0,
+        device: 0,
+        local: 0,
+        divisor: 0,
+        barrier: 0,
+    }
+}
+
+// Whether no lane faults.
+pub fn clear(faults: Faults) -> bool
+    ensures { λ r. ⌜ r ≡ kinds.clear faults ⌝ }
+{
+    (faults.odd == 0)
+        & (faults.device == 0)
+        & (faults.local == 0)
+        & (faults.divisor == 0)
+        & (faults.barrier == 0)
+}
+
+// The lanes whose address is not a multiple of 4, and those whose address is one and past the memory.
+struct Access {
+    odd: Lanes,
+    past: Lanes,
+}
+
+// Whether an address is past a memory of so many words.
+fn past_end(address: u32, words: usize) -> bool
+    ensures { λ r. ⌜ r ≡ isPast words address ⌝ }
+{
+    words <= ((address / 4) as usize)
+}
+
+// The lanes of `t` that can't reach their addresses, in a memory of so many words.
+fn reach(at: [u32; 32], words: usize, t: Lanes, width: u32) -> Access
+    requires { ⌜ width ≤ widest ⌝ }
+    ensures odd { λ r. ⌜ r .odd ≡ setOf width (λ i. has t i && isOdd (getD at i 0)) ⌝ }
+    ensures past { λ r. ⌜ r .past ≡ setOf width (λ i. has t i && (not (isOdd (getD at i 0)) && isPast words (getD at i 0))) ⌝ }
+{
+    let mut odd: Lanes = 0;
+    let mut past: Lanes = 0;
+    let mut i: u32 = 0;
+    while i < width {
+        let k = i as usize;
+        let address = at[k];
+        let unaligned = address % 4 != 0;
+        odd = lanes::union(odd, marked(t, i, unaligned));
+        past = lanes::union(past, marked(t, i, !unaligned & past_end(address, words)));
+        i += 1;
+    }
+    Access { odd, past }
+}
+
+// The faults of the lanes `t` at their addresses, in a memory of so many words.
+pub fn address_faults(space: Space, at: [u32; 32], words: usize, t: Lanes, width: u32) -> Faults
+    requires { ⌜ width ≤ widest ⌝ }
+    ensures { λ r. ⌜ r ≡ addressFaults space width at words t ⌝ }
+{
+    let access = reach(at, words, t, width);
+    match space {
+        Space::Device => Faults {
+            odd: access.odd,
+            device: access.past,
+            local: 0,
+            divisor: 0,
+            barrier: 0,
+        },
+        Space::Local => Faults {
+            odd: access.odd,
+            device: 0,
+            local: access.past,
+            divisor: 0,
+            barrier: 0,
+        },
+    }
+}
+
+// The lanes of `t` whose register is zero.
+fn zero_lanes(t: Lanes, shape: Shape, regs: &[u32], register: u8) -> Lanes
+    requires { ⌜ Stands shape (now regs) register ⌝ }
+    ensures { λ r. ⌜ r ≡ setOf (shape .width) (λ i. has t i && eqb (getD (gatherOf shape (now (regs .entry)) register) i 0) 0) ⌝ }
+{
+    let width = shape.width;
+    let mut set: Lanes = 0;
+    let mut i: u32 = 0;
+    while i < width {
+        let p = slot(shape, i, register);
+        set = lanes::union(set, marked(t, i, regs[p] == 0));
+        i += 1;
+    }
+    set
+}
+
+// The faults of the lanes `t` that divide by zero.
+pub fn divisor_faults(op: TwoOp, t: Lanes, shape: Shape, regs: &[u32], rs2: u8) -> Faults
+    requires { ⌜ Stands shape (now regs) rs2 ⌝ }
+    ensures { λ r. ⌜ r ≡ divisorFaults op shape (now (regs .entry)) rs2 t ⌝ }
+{
+    if arith::division::divides(op) {
+        return Faults {
+            odd: 0,
+            device: 0,
+            local: 0,
+            divisor: zero_lanes(t, shape, regs, rs2),
+            barrier: 0,
+        };
+    }
+    no_faults()
+}

@@ -1,0 +1,134 @@
+// One instruction that is not control, carried out by the executing lanes: every lane's result is worked out before any lane is
+// written, and with a fault nothing is written at all.
+mod classes;
+mod comparisons;
+mod constants;
+mod faulting;
+mod masks;
+mod memory;
+mod one_operand;
+mod registers;
+mod two_operands;
+
+ghost use mathlib.Core.Path.{_≡_};
+ghost use mathlib.Core.Bool.{true};
+ghost use Rattle.compute.specs.Operands.{lent, operandsOf};
+ghost use Rattle.compute.specs.Carrying.{carried, inShape, havingRead, carriedOf};
+use crate::classes::carry_change;
+use crate::classes::carry_load;
+use crate::classes::carry_store;
+use crate::classes::carry_two;
+use crate::classes::carry_value;
+use crate::comparisons::compare_results;
+use crate::comparisons::predicate_after;
+use crate::constants::number_results;
+use crate::constants::special_results;
+use crate::faulting::no_faults;
+use crate::memory::Change;
+use crate::one_operand::one_results;
+use lanes::Lanes;
+use lanes::WIDEST;
+use words::instr::Instr;
+use words::instr::Op;
+use words::registers::registers_below;
+
+// The wave's lanes, and the registers of each.
+pub struct Shape {
+    pub width: u32,
+    pub registers: u32,
+}
+
+// The lanes of each kind of fault: 1 an address that is not a multiple of 4, 2 device and 3 local address past the memory, 4 a divisor
+// of zero, 5 a barrier that some lane has not reached.
+pub struct Faults {
+    pub odd: Lanes,
+    pub device: Lanes,
+    pub local: Lanes,
+    pub divisor: Lanes,
+    pub barrier: Lanes,
+}
+
+// The faults, and the predicate that RD names as it is afterwards.
+pub struct Carried {
+    pub faults: Faults,
+    pub predicate: Lanes,
+}
+
+// `x` carried out by the lanes `t`. `predicate` is the set of the predicate that RD names, for comparisons. Control instructions, and
+// instructions out of shape, do nothing: a wave is no wider than the widest, the registers of `x` are below the number of registers,
+// and the buffer has room for the registers of every lane.
+pub fn carry_out(x: Instr, t: Lanes, predicate: Lanes, shape: Shape, regs: &mut [u32], device: &mut [u32], local: &mut [u32]) -> Carried
+    ensures { λ r. ⌜ carried r (now (regs .exit)) (now (device .exit)) (now (local .exit)) ≡ carriedOf shape x t (lent predicate (now (regs .entry)) (now (device .entry)) (now (local .entry))) ⌝ }
+{
+    if in_shape(shape, x, regs) {
+        return carry(x, t, predicate, shape, regs, device, local);
+    }
+    Carried {
+        faults: no_faults(),
+        predicate,
+    }
+}
+
+// Whether the wave is no wider than the widest, every register of `x` is below the number of registers, and the buffer has room for all.
+fn in_shape(shape: Shape, x: Instr, regs: &[u32]) -> bool
+    ensures { λ r. ⌜ r ≡ inShape shape x (now (regs .entry)) ⌝ }
+{
+    let room = (shape.width as usize) * (shape.registers as usize);
+    (shape.width <= WIDEST) & registers_below(x, shape.registers) & (room <= regs.len())
+}
+
+// An instruction in shape, by its class.
+fn carry(x: Instr, t: Lanes, predicate: Lanes, shape: Shape, regs: &mut [u32], device: &mut [u32], local: &mut [u32]) -> Carried
+    requires { ⌜ inShape shape x (now regs) ≡ true ⌝ }
+    ensures { λ r. ⌜ carried r (now (regs .exit)) (now (device .exit)) (now (local .exit)) ≡ havingRead shape x t (operandsOf shape x (now (regs .entry))) (lent predicate (now (regs .entry)) (now (device .entry)) (now (local .entry))) ⌝ }
+{
+    let width = shape.width;
+    let rd = x.rd;
+    let rs1 = x.rs1;
+    let rs2 = x.rs2;
+    let rs3 = x.rs3;
+    let number = x.number;
+    let op = x.op;
+    match op {
+        Op::Two(o) => Carried {
+            faults: carry_two(o, t, rd, rs1, rs2, shape, regs),
+            predicate,
+        },
+        Op::Compare(o) => Carried {
+            faults: no_faults(),
+            predicate: predicate_after(compare_results(o, shape, regs, rs1, rs2), t, predicate, width),
+        },
+        Op::One(o) => Carried {
+            faults: carry_value(one_results(o, shape, regs, rs1), t, rd, shape, regs),
+            predicate,
+        },
+        Op::Special => Carried {
+            faults: carry_value(special_results(rs1, width), t, rd, shape, regs),
+            predicate,
+        },
+        Op::Number => Carried {
+            faults: carry_value(number_results(number, width), t, rd, shape, regs),
+            predicate,
+        },
+        Op::Load(space) => Carried {
+            faults: carry_load(space, t, rd, rs1, number, shape, regs, device, local),
+            predicate,
+        },
+        Op::Store(space) => Carried {
+            faults: carry_store(space, t, rd, rs1, number, shape, regs, device, local),
+            predicate,
+        },
+        Op::Atomic(o) => Carried {
+            faults: carry_change(Change::Atomic(o), t, rd, rs1, rs2, rs2, shape, regs, device),
+            predicate,
+        },
+        Op::Cas => Carried {
+            faults: carry_change(Change::Swap, t, rd, rs1, rs2, rs3, shape, regs, device),
+            predicate,
+        },
+        Op::Control(_) => Carried {
+            faults: no_faults(),
+            predicate,
+        },
+    }
+}

@@ -1,0 +1,138 @@
+// Loads, stores and atomics of the executing lanes, over a memory of 32-bit words. Each has an answer for all addresses: a word past
+// the end reads as 0 and is not written.
+ghost use mathlib.Core.Path.{_≡_};
+ghost use mathlib.Core.Bool.{cond};
+ghost use Prim.Native.Nat.{_≤_};
+ghost use lib.ListN.{getD, set};
+ghost use Rattle.lanes.specs.Sets.{widest};
+ghost use Rattle.compute.specs.Registers.{Stands, byLane, gatherOf};
+ghost use Rattle.compute.specs.Memory.{addressesOf, wordOf, changesOf, oldOf};
+ghost use Rattle.compute.specs.Lanewise.{loadLanes, changeOf, changeTo};
+use crate::Shape;
+use crate::masks::picks;
+use crate::registers::slot;
+use lanes::Lanes;
+use words::instr::AtomicOp;
+
+// What an atomic does to the word that it finds: an operation with its operand, or compare-and-swap.
+pub enum Change {
+    Atomic(AtomicOp),
+    Swap,
+}
+
+// The addresses of a load or a store: RS1 plus the offset.
+pub fn addresses(shape: Shape, regs: &[u32], rs1: u8, offset: u32) -> [u32; 32]
+    requires { ⌜ Stands shape (now regs) rs1 ⌝ }
+    ensures { λ r. ⌜ r ≡ addressesOf (shape .width) (gatherOf shape (now (regs .entry)) rs1) offset ⌝ }
+{
+    let mut out = [0u32; 32];
+    let width = shape.width;
+    let mut i: u32 = 0;
+    while i < width {
+        let p = slot(shape, i, rs1);
+        let k = i as usize;
+        out[k] = arith::sums::address(regs[p], offset);
+        i += 1;
+    }
+    out
+}
+
+// The word that an address names.
+fn word(memory: &[u32], address: u32) -> u32
+    ensures { λ r. ⌜ r ≡ getD (now (memory .entry)) (wordOf address) 0 ⌝ }
+{
+    let k = (address / 4) as usize;
+    if k < memory.len() { memory[k] } else { 0 }
+}
+
+// What a lane that executes finds at its address, and 0 for another.
+fn word_found(memory: &[u32], address: u32, picked: bool) -> u32
+    ensures { λ r. ⌜ r ≡ cond picked (getD (now (memory .entry)) (wordOf address) 0) 0 ⌝ }
+{
+    if picked { word(memory, address) } else { 0 }
+}
+
+// Writes the word that a lane's address names, where the lane executes.
+fn word_left(memory: &mut [u32], address: u32, value: u32, picked: bool)
+    ensures { λ r. ⌜ now (memory .exit) ≡ cond picked (set (now (memory .entry)) (wordOf address) value) (now (memory .entry)) ⌝ }
+{
+    if picked {
+        let k = (address / 4) as usize;
+        if k < memory.len() {
+            memory[k] = value;
+        }
+    }
+}
+
+// The words that the lanes' addresses name.
+pub fn load_lanes(at: [u32; 32], memory: &[u32], width: u32) -> [u32; 32]
+    requires { ⌜ width ≤ widest ⌝ }
+    ensures { λ r. ⌜ r ≡ loadLanes width at (now (memory .entry)) ⌝ }
+{
+    let mut out = [0u32; 32];
+    let mut i: u32 = 0;
+    while i < width {
+        let k = i as usize;
+        out[k] = word(memory, at[k]);
+        i += 1;
+    }
+    out
+}
+
+// Stores register `rd` of the lanes `t` at their addresses, in rising lane order.
+pub fn store_lanes(at: [u32; 32], t: Lanes, rd: u8, shape: Shape, regs: &[u32], memory: &mut [u32])
+    requires { ⌜ Stands shape (now regs) rd ⌝ }
+    ensures { λ r. ⌜ now (memory .exit) ≡ changesOf (shape .width) at (λ i old. getD (gatherOf shape (now (regs .entry)) rd) i 0) t (now (memory .entry)) ⌝ }
+{
+    let width = shape.width;
+    let mut i: u32 = 0;
+    while i < width {
+        let p = slot(shape, i, rd);
+        let k = i as usize;
+        word_left(memory, at[k], regs[p], picks(t, i));
+        i += 1;
+    }
+}
+
+// What an atomic leaves where it found `old`.
+fn changed(change: Change, old: u32, operand: u32, desired: u32) -> u32
+    ensures { λ r. ⌜ r ≡ changeOf change old operand desired ⌝ }
+{
+    match change {
+        Change::Atomic(op) => arith::atomic(op, old, operand),
+        Change::Swap => arith::swap(old, operand, desired),
+    }
+}
+
+// The atomics of the lanes `t`, in rising lane order, with their registers `rs2` and, for compare-and-swap, `rs3`. The answer is the
+// word that each found.
+pub fn change_lanes(
+    change: Change,
+    at: [u32; 32],
+    t: Lanes,
+    rs2: u8,
+    rs3: u8,
+    shape: Shape,
+    regs: &[u32],
+    memory: &mut [u32],
+) -> [u32; 32]
+    requires { ⌜ Stands shape (now regs) rs2 × Stands shape (now regs) rs3 ⌝ }
+    ensures found { λ r. ⌜ r ≡ byLane (shape .width) (oldOf at (changeTo change shape (now (regs .entry)) rs2 rs3) t (now (memory .entry))) ⌝ }
+    ensures left { λ r. ⌜ now (memory .exit) ≡ changesOf (shape .width) at (changeTo change shape (now (regs .entry)) rs2 rs3) t (now (memory .entry)) ⌝ }
+{
+    let mut out = [0u32; 32];
+    let width = shape.width;
+    let mut i: u32 = 0;
+    while i < width {
+        let p = slot(shape, i, rs2);
+        let q = slot(shape, i, rs3);
+        let k = i as usize;
+        let picked = picks(t, i);
+        let old = word_found(memory, at[k], picked);
+        let new = changed(change, old, regs[p], regs[q]);
+        word_left(memory, at[k], new, picked);
+        out[k] = old;
+        i += 1;
+    }
+    out
+}

@@ -1,0 +1,47 @@
+// Where the registers stand: reading a register of every lane, and the writer.
+ghost use mathlib.Core.Path.{_≡_};
+ghost use Rattle.compute.specs.Registers.{Stands, slotIn, gatherOf, writeLanes};
+use crate::Shape;
+use crate::masks::chosen;
+use crate::masks::picks;
+use lanes::Lanes;
+
+// Where register `register` of `lane` stands.
+pub fn slot(shape: Shape, lane: u32, register: u8) -> usize
+    ensures { λ r. ⌜ r ≡ slotIn shape lane register ⌝ }
+{
+    (lane as usize) * (shape.registers as usize) + (register as usize)
+}
+
+// Register `register` of every lane.
+pub fn gather(shape: Shape, regs: &[u32], register: u8) -> [u32; 32]
+    requires { ⌜ Stands shape (now regs) register ⌝ }
+    ensures { λ r. ⌜ r ≡ gatherOf shape (now (regs .entry)) register ⌝ }
+{
+    let mut out = [0u32; 32];
+    let width = shape.width;
+    let mut i: u32 = 0;
+    while i < width {
+        let at = slot(shape, i, register);
+        let k = i as usize;
+        out[k] = regs[at];
+        i += 1;
+    }
+    out
+}
+
+// Writes the results of the lanes `t` to their registers `rd`.
+pub fn write_lanes(results: [u32; 32], t: Lanes, rd: u8, shape: Shape, regs: &mut [u32])
+    requires { ⌜ Stands shape (now regs) rd ⌝ }
+    ensures { λ r. ⌜ now (regs .exit) ≡ writeLanes shape (now (regs .entry)) rd t results ⌝ }
+{
+    let width = shape.width;
+    let mut i: u32 = 0;
+    while i < width {
+        let at = slot(shape, i, rd);
+        let k = i as usize;
+        let old = regs[at];
+        regs[at] = chosen(picks(t, i), results[k], old);
+        i += 1;
+    }
+}

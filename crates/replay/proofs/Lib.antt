@@ -1,0 +1,6 @@
+pub mod Runs
+pub mod Adding
+pub mod Stepping
+pub mod Entering
+pub mod Fills
+pub mod OneAnswer

@@ -1,0 +1,106 @@
+-- What the loop of a run keeps, how each way out gives the run, and how runs follow one another.
+use Prim.Native.Nat.{ℕ, zero, suc, _+_, _-_, _≤_, _<_}
+use mathlib.Core.Path.{_≡_, refl, ap, sym, _∙_}
+use mathlib.Core.Bool.{Bool, true, false, not}
+use mathlib.Core.Logic.{_⊎_, ⊎-elim, inl, inr}
+use mathlib.Core.List.{List}
+use native.Mathlib.Omega.{arith}
+use native.Mathlib.Numerals.{add-one}
+use native.Mathlib.Nat.{zero-add, add-zero, add-assoc}
+use Rattle.compute.specs.declared.Faults.{Faults}
+use Rattle.compute.specs.Faulting.{clear}
+use Rattle.words.specs.declared.instr.Instr.{Instr}
+use Rattle.replay.specs.declared.settings.Settings.{Settings}
+use Rattle.replay.specs.declared.answers.Outcome.{Outcome}
+use Rattle.replay.specs.declared.answers.Outcome.the-variants.{Ended, OutOfBudget, Fault, Refused}
+use Rattle.replay.specs.Machine.{Machine}
+use Rattle.replay.specs.Step.{Stepped, stepAs, stepOf}
+use Rattle.replay.specs.Run.{Ran, stop, later, unless, endedOf, stepAt, onward, runOf}
+
+abbrev pub done : Outcome → ℕ → Machine → Ran
+done o n m = record { outcome = o; steps = n; end = m }
+
+-- ---- steps made before
+pub later-zero : (r : Ran) → later 0 r ≡ r
+later-zero r = ap (λ (k : ℕ). done (r .outcome) k (r .end)) (zero-add (r .steps))
+
+pub later-later : (a b : ℕ) (r : Ran) → later a (later b r) ≡ later (a + b) r
+later-later a b r = ap (λ (k : ℕ). done (r .outcome) k (r .end)) (sym (add-assoc a b (r .steps)))
+
+later-stop : (n : ℕ) (o : Outcome) (m : Machine) → later n (stop o m) ≡ done o n m
+later-stop n o m = ap (λ (k : ℕ). done o k m) (add-zero n)
+
+-- ---- a step that faults leaves the machine as it was
+pub keeps : (s : Settings) (x : Instr) (m : Machine) → clear (stepOf s x m .faults) ≡ false → stepOf s x m .end ≡ m
+unfolding stepOf
+keeps s x m e = rw e
+
+module _ (s : Settings) (code : List ℕ) where
+  -- ---- the run, at each kind of machine
+  pub at-ended : (b : ℕ) (m : Machine) → endedOf s code m ≡ true → runOf s code b m ≡ stop Ended m
+  unfolding runOf
+  at-ended zero m e = rw e
+  at-ended (suc b) m e = rw e
+
+  pub at-budget : (m : Machine) → endedOf s code m ≡ false → runOf s code 0 m ≡ stop OutOfBudget m
+  unfolding runOf
+  at-budget m e = rw e
+
+  pub at-step :
+      (b : ℕ) (m : Machine) → endedOf s code m ≡ false →
+      runOf s code (suc b) m ≡ onward (stepAt s code m) m (λ (v : Unit {0}). runOf s code b (stepAt s code m .end))
+  unfolding runOf
+  at-step b m e = rw e
+
+  pub at-fault :
+      (b : ℕ) (m : Machine) → endedOf s code m ≡ false → clear (stepAt s code m .faults) ≡ false →
+      runOf s code (suc b) m ≡ stop (Fault (stepAt s code m .faults)) m
+  at-fault b m e f = at-step b m e ∙ rw f
+
+  pub at-clear :
+      (b : ℕ) (m : Machine) → endedOf s code m ≡ false → clear (stepAt s code m .faults) ≡ true →
+      runOf s code (suc b) m ≡ later 1 (runOf s code b (stepAt s code m .end))
+  at-clear b m e f = at-step b m e ∙ rw f
+
+  -- ---- n steps of the budget are made, and m is the machine: the rest of the run from m is the run
+  pub record Going (budget n : ℕ) (m₀ m : Machine) : Type 0 where
+    pub fewer : n ≤ budget
+    pub rest : runOf s code budget m₀ ≡ later n (runOf s code (budget - n) m)
+
+  pub start : (budget : ℕ) (m : Machine) → Going budget 0 m m
+  start budget m =
+      record {
+        fewer = omega arith;
+        rest = sym (later-zero (runOf s code (budget - 0) m) ∙ ap (λ (b : ℕ). runOf s code b m) (omega arith));
+      }
+
+  module _ (budget n : ℕ) (m₀ m : Machine) (g : Going budget n m₀ m) where
+    pub ends : endedOf s code m ≡ true → done Ended n m ≡ runOf s code budget m₀
+    ends e = sym (g .rest ∙ ap (later n) (at-ended (budget - n) m e) ∙ later-stop n Ended m)
+
+    module _ (e : endedOf s code m ≡ false) where
+      pub spent : n ≡ budget → done OutOfBudget n m ≡ runOf s code budget m₀
+      spent q =
+          let z : budget - n ≡ 0 = omega arith in
+          sym (g .rest ∙ ap (λ (b : ℕ). later n (runOf s code b m)) z ∙ ap (later n) (at-budget m e) ∙ later-stop n OutOfBudget m)
+
+      module _ (q : (n ≡ budget → ⊥)) (x : Stepped) (t : x ≡ stepAt s code m) where
+        one-more : budget - n ≡ suc (budget - (n + 1))
+        one-more = omega (arith, q, g .fewer)
+
+        pub faulted : clear (x .faults) ≡ false → done (Fault (x .faults)) n (x .end) ≡ runOf s code budget m₀
+        faulted f =
+            let u : clear (stepAt s code m .faults) ≡ false = rw (← t) f in
+            rw t
+            (ap (done (Fault (stepAt s code m .faults)) n) (keeps s _ m u)
+            ∙ sym (g .rest ∙ ap (λ (b : ℕ). later n (runOf s code b m)) one-more ∙ ap (later n) (at-fault (budget - (n + 1)) m e u) ∙ later-stop n _ m))
+
+        pub goes : clear (x .faults) ≡ true → Going budget (n + 1) m₀ (x .end)
+        goes f =
+            let u : clear (stepAt s code m .faults) ≡ true = rw (← t) f in
+            record {
+              fewer = omega (arith, q, g .fewer);
+              rest =
+                  g .rest ∙ ap (λ (b : ℕ). later n (runOf s code b m)) one-more ∙ ap (later n) (at-clear (budget - (n + 1)) m e u)
+                  ∙ later-later n 1 _ ∙ rw t;
+            }

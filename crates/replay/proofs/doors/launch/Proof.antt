@@ -1,0 +1,71 @@
+-- By the verdict of the tests: the refusal, or local memory filled and the run from the launched state.
+use mathlib.Core.Path.{sym, _∙_}
+use Rattle.replay.proofs.Entering.{launch-refused, launch-ran}
+use borrow.Author.Needs.{needs}
+use Rattle.replay.proofs.doors.launch.Statement.{statement}
+use Rattle.replay.proofs.doors.launch.Tie as tie
+
+test-launch-requires : tie.Need-test-launch-requires
+test-launch-requires c κs = search needs
+
+enum-known-test : tie.Need-enum-known-test
+enum-known-test c = search needs
+
+not-launched-requires : tie.Need-not-launched-requires
+not-launched-requires c κs = search needs
+
+refused-requires : tie.Need-refused-requires
+refused-requires c κs = search needs
+
+enum-told : tie.Need-enum-told
+enum-told c = search needs
+
+fill-with-requires : tie.Need-fill-with-requires
+fill-with-requires c κs = search needs
+
+launched-requires : tie.Need-launched-requires
+launched-requires c κs = search needs
+
+run-from-requires : tie.Need-run-from-requires
+run-from-requires c κs = search needs
+
+same-length : tie.Need-same-length
+same-length c = search needs
+
+returns : tie.Need-returns
+returns c = let a = c .before .before .before .before .before .before .before .before .before .before .before .args in
+    launch-refused (a .settings) (a .code .now) (a .regs .now) (a .device .now) (a .local .now) _ _ _ _
+    (sym (c .before .before .before .before .before .test-launch .ensures) ∙ c .before .before .before .test .given .1) (c .before .not-launched .ensures) (c .refused .ensures)
+
+same-length-2 : tie.Need-same-length-2
+same-length-2 c = search needs
+
+same-length-3 : tie.Need-same-length-3
+same-length-3 c = search needs
+
+same-length-4 : tie.Need-same-length-4
+same-length-4 c = search needs
+
+returns-2 : tie.Need-returns-2
+returns-2 c = let a = c .before .before .before .before .before .before .before .before .before .before .before .before .before .before .before .before .before .before .before .before .before .before .before .args in
+    launch-ran (a .settings) (a .code .now) (a .regs .now) (a .device .now) (a .local .now) _ _ _ _ _ _
+    (sym (c .before .before .before .before .before .before .before .before .before .before .before .before .before .before .before .before .before .test-launch .ensures) ∙ c .before .before .before .before .before .before .before .before .before .before .before .before .before .before .before .enum-told .given .1) (c .before .before .before .before .before .before .before .before .before .before .before .before .before .fill-with .ensures) (c .before .before .before .before .before .before .before .before .before .before .launched .ensures) (c .before .before .before .before .before .before .run-from .ensures)
+
+pub launch-spec : {M : Type 1} → statement M
+launch-spec =
+    tie.close
+    (tie.spec
+    test-launch-requires
+    enum-known-test
+    not-launched-requires
+    refused-requires
+    enum-told
+    fill-with-requires
+    launched-requires
+    run-from-requires
+    same-length
+    returns
+    same-length-2
+    same-length-3
+    same-length-4
+    returns-2)

@@ -1,0 +1,29 @@
+-- The first test that refuses, or the check of the code.
+use mathlib.Core.Path.{sym, _∙_}
+use Rattle.replay.proofs.Entering.{stops, goes-on}
+use borrow.Author.Needs.{needs}
+use Rattle.replay.proofs.tests.test_launch.Statement.{statement}
+use Rattle.replay.proofs.tests.test_launch.Tie as tie
+
+test-bounds-requires : tie.Need-test-bounds-requires
+test-bounds-requires c κs = search needs
+
+enum-known-bounds : tie.Need-enum-known-bounds
+enum-known-bounds c = search needs
+
+enum-told : tie.Need-enum-told
+enum-told c = search needs
+
+check-requires : tie.Need-check-requires
+check-requires c κs = search needs
+
+returns : tie.Need-returns
+returns c = stops _ _ (sym (c .before .before .before .test-bounds .ensures) ∙ c .before .bounds .given .1)
+
+returns-2 : tie.Need-returns-2
+returns-2 c = goes-on _ _ (sym (c .before .before .before .test-bounds .ensures) ∙ c .before .enum-told .given .1) (c .check .ensures)
+
+pub test-launch-spec : {M : Type 1} → statement M
+test-launch-spec =
+    tie.close
+    (tie.spec test-bounds-requires enum-known-bounds enum-told check-requires returns returns-2)

@@ -1,0 +1,41 @@
+-- The first test that refuses, or whether the state fits.
+use mathlib.Core.Path.{sym, ap, _∙_}
+use mathlib.Core.Bool.{Bool}
+use Rattle.replay.specs.Replay.{unless}
+use Rattle.replay.proofs.Entering.{stops, goes-on}
+use borrow.Author.Needs.{needs}
+use Rattle.replay.proofs.tests.test_resume.Statement.{statement}
+use Rattle.replay.proofs.tests.test_resume.Tie as tie
+
+test-launch-requires : tie.Need-test-launch-requires
+test-launch-requires c κs = search needs
+
+enum-known-launch : tie.Need-enum-known-launch
+enum-known-launch c = search needs
+
+enum-told : tie.Need-enum-told
+enum-told c = search needs
+
+fits-requires : tie.Need-fits-requires
+fits-requires c κs = search needs
+
+refuse-unless-requires : tie.Need-refuse-unless-requires
+refuse-unless-requires c κs = search needs
+
+returns : tie.Need-returns
+returns c = stops _ _ (sym (c .before .before .before .test-launch .ensures) ∙ c .before .launch .given .1)
+
+returns-2 : tie.Need-returns-2
+returns-2 c = goes-on _ _ (sym (c .before .before .before .before .before .before .before .test-launch .ensures) ∙ c .before .before .before .before .before .enum-told .given .1) (c .refuse-unless .ensures ∙ ap (λ (ok : Bool). unless ok 11) (c .before .fits2 .ensures))
+
+pub test-resume-spec : {M : Type 1} → statement M
+test-resume-spec =
+    tie.close
+    (tie.spec
+    test-launch-requires
+    enum-known-launch
+    enum-told
+    fits-requires
+    refuse-unless-requires
+    returns
+    returns-2)

@@ -1,0 +1,138 @@
+-- Launching a kernel and going on from a state: the refusals in their order, each with its number and place, and else the run.
+use Prim.Native.Nat.{ℕ, _*_}
+use mathlib.Core.Bool.{Bool, cond, _&&_, _||_}
+use mathlib.Core.List.{List}
+use lib.Dec.{eqb, leb}
+use lib.ListN.{length, replicate}
+use Rattle.blocks.specs.declared.structure.Checked.{Checked}
+use Rattle.blocks.specs.Code.{codeOf}
+use Rattle.blocks.specs.Scan.{checkOf}
+use Rattle.wave.specs.declared.state.State.{State}
+use Rattle.wave.specs.Wave.{stateOf, launch, clear}
+use Rattle.wave.specs.FitsTest.{fitsTest}
+use Rattle.compute.specs.Memory.{Memories}
+use Rattle.replay.specs.declared.settings.Settings.{Settings}
+use Rattle.replay.specs.declared.answers.Outcome.{Outcome}
+use Rattle.replay.specs.declared.answers.Replayed.{Replayed}
+use Rattle.replay.specs.Machine.{Machine, machineOf}
+use Rattle.replay.specs.Step.{launchedLanes}
+use Rattle.replay.specs.Run.{Ran, runOf}
+
+-- ---- what is allowed
+abbrev pub mostRegisters : ℕ
+mostRegisters = 256
+
+abbrev pub mostSteps : ℕ
+mostSteps = 1000000000
+
+abbrev pub mostWords : ℕ
+mostWords = 65536
+
+-- width 8, 16 or 32; registers 1 to 256; launched lanes 1 to W; step budget 0 to 1,000,000,000
+abbrev pub settingsRight : Settings → Bool
+settingsRight s =
+    (eqb (s .width) 8 || eqb (s .width) 16 || eqb (s .width) 32)
+    && leb 1 (s .registers)
+    && leb (s .registers) mostRegisters
+    && leb 1 (s .lanes)
+    && leb (s .lanes) (s .width)
+    && leb (s .budget) mostSteps
+
+-- ---- the tests, in their order: the first rule broken is the refusal
+abbrev pub thenTest : Checked → Checked → Checked
+thenTest Checked.Fine next = next
+thenTest (Checked.Refused number place) next = Checked.Refused number place
+
+abbrev pub unless : Bool → ℕ → Checked
+unless ok number = cond ok Checked.Fine (Checked.Refused number 0)
+
+-- 1 a setting, 2 code too long, 3 register buffer length
+abbrev pub boundsTest : Settings → List ℕ → List ℕ → Checked
+boundsTest s code regs =
+    thenTest (unless (settingsRight s) 1)
+    (thenTest (unless (leb (length code) mostWords) 2) (unless (eqb (length regs) (s .width * s .registers)) 3))
+
+-- then instruction by instruction 4 to 9, then 10
+abbrev pub launchTest : Settings → List ℕ → List ℕ → Checked
+launchTest s code regs = thenTest (boundsTest s code regs) (checkOf (codeOf code (s .registers)))
+
+-- then 11: the state doesn't fit
+abbrev pub resumeTest : Settings → State → List ℕ → List ℕ → Checked
+resumeTest s state code regs =
+    thenTest (launchTest s code regs) (unless (fitsTest code (s .registers) (s .lanes) (state .hot) (state .blocks)) 11)
+
+-- ---- what a call answers, with the buffers as it leaves them
+pub record Answered : Type 0 where
+  pub outcome : Outcome
+  pub steps : ℕ
+  pub state : State
+  pub regs : List ℕ
+  pub memories : Memories
+
+abbrev pub memories : List ℕ → List ℕ → Memories
+memories device local = record { device = device; local = local }
+
+abbrev pub answered : Replayed → List ℕ → List ℕ → List ℕ → Answered
+answered r regs device local =
+    record { outcome = r .outcome; steps = r .steps; state = r .state; regs = regs; memories = memories device local }
+
+abbrev pub refusedAs : ℕ → ℕ → State → Replayed
+refusedAs number place state = record { outcome = Outcome.Refused number place; steps = 0; state = state }
+
+-- a refusal reports zero steps, returns the state handed in and changes nothing lent
+abbrev pub refusal : ℕ → ℕ → State → List ℕ → Memories → Answered
+refusal number place state regs y =
+    record { outcome = Outcome.Refused number place; steps = 0; state = state; regs = regs; memories = y }
+
+-- a run's answer: its state has zeros past its open blocks
+abbrev pub ending : Ran → Answered
+ending r =
+    record {
+      outcome = r .outcome;
+      steps = r .steps;
+      state = stateOf (r .end .wave) (r .end .preds);
+      regs = r .end .regs;
+      memories = r .end .memories;
+    }
+
+abbrev pub byTest : Checked → (Unit {0} → Answered) → State → List ℕ → Memories → Answered
+byTest Checked.Fine run state regs y = run tt
+byTest (Checked.Refused number place) run state regs y = refusal number place state regs y
+
+-- the run from a machine, with the settings' budget
+abbrev pub runFrom : Settings → List ℕ → Machine → Answered
+runFrom s code m = ending (runOf s code (s .budget) m)
+
+-- ---- a launch
+-- local memory is filled with zeros
+abbrev pub fill : ℕ
+fill = 0
+
+abbrev pub filled : List ℕ → List ℕ
+filled local = replicate (length local) fill
+
+-- p1 to p3 clear, the launched lanes active, no block open, registers as lent
+abbrev pub launchMachine : Settings → List ℕ → List ℕ → List ℕ → Machine
+launchMachine s regs device local =
+    record { wave = launch (launchedLanes s); preds = clear; regs = regs; memories = memories device (filled local) }
+
+-- a refused launch returns place 0, empty sets, no block
+abbrev pub notLaunched : State
+notLaunched = stateOf (launch 0) clear
+
+unfoldable pub launchOf : Settings → List ℕ → List ℕ → List ℕ → List ℕ → Answered
+launchOf s code regs device local =
+    byTest (launchTest s code regs) (λ (u : Unit {0}). runFrom s code (launchMachine s regs device local)) notLaunched regs (memories device local)
+
+-- ---- going on
+abbrev pub stateMachine : State → List ℕ → List ℕ → List ℕ → Machine
+stateMachine state regs device local = machineOf (state .hot) (state .blocks) regs device local
+
+unfoldable pub resumeOf : Settings → State → List ℕ → List ℕ → List ℕ → List ℕ → Answered
+resumeOf s state code regs device local =
+    byTest (resumeTest s state code regs) (λ (u : Unit {0}). runFrom s code (stateMachine state regs device local)) state regs (memories device local)
+
+-- the same for code and a state that have passed the checks before: only 1 to 3 are tested
+unfoldable pub goOnOf : Settings → State → List ℕ → List ℕ → List ℕ → List ℕ → Answered
+goOnOf s state code regs device local =
+    byTest (boundsTest s code regs) (λ (u : Unit {0}). runFrom s code (stateMachine state regs device local)) state regs (memories device local)

@@ -1,0 +1,131 @@
+// The ways into a replay: a launch, going on from a state, and going on with what has passed the checks before.
+use crate::answers::Outcome;
+use crate::answers::Replayed;
+use crate::filling::fill_with;
+use crate::run::go;
+use crate::settings::Settings;
+use crate::tests::test_bounds;
+use crate::tests::test_launch;
+use crate::tests::test_resume;
+use blocks::structure::Checked;
+use wave::launch::launched;
+use wave::launch::not_launched;
+use wave::state::State;
+use wave::state::tidy;
+ghost use mathlib.Core.Path.{_≡_};
+ghost use Rattle.replay.specs.Replay.{refusedAs, answered, stateMachine, runFrom, launchOf, resumeOf, goOnOf};
+
+// What local memory holds when a launched run starts.
+pub const FILL: u32 = 0;
+
+// A refusal: zero steps, and the state handed in.
+fn refused(number: u32, place: usize, state: State) -> Replayed
+    ensures { λ r. ⌜ r ≡ refusedAs number place state ⌝ }
+{
+    Replayed {
+        outcome: Outcome::Refused { number, place },
+        steps: 0,
+        state,
+    }
+}
+
+// The run from a state, with no test.
+fn run_from(
+    settings: Settings,
+    state: State,
+    code: &[u32],
+    regs: &mut [u32],
+    device: &mut [u32],
+    local: &mut [u32],
+) -> Replayed
+    ensures { λ r. ⌜
+        answered r (now (regs .exit)) (now (device .exit)) (now (local .exit))
+        ≡ runFrom settings (now (code .entry)) (stateMachine state (now (regs .entry)) (now (device .entry)) (now (local .entry))) ⌝ }
+{
+    let mut path = state.blocks;
+    let hot = state.hot;
+    let a = go(settings, hot, code, &mut path, regs, device, local);
+    let outcome = a.outcome;
+    let steps = a.steps;
+    let end = tidy(a.hot, &mut path);
+    Replayed {
+        outcome,
+        steps,
+        state: State {
+            hot: end,
+            blocks: path,
+        },
+    }
+}
+
+// A kernel from its start. Refusals 1 to 10 change nothing lent and return place 0, empty sets and no block; otherwise local memory was
+// filled, whatever came after.
+pub fn launch(
+    settings: Settings,
+    code: &[u32],
+    regs: &mut [u32],
+    device: &mut [u32],
+    local: &mut [u32],
+) -> Replayed
+    ensures { λ r. ⌜
+        answered r (now (regs .exit)) (now (device .exit)) (now (local .exit))
+        ≡ launchOf settings (now (code .entry)) (now (regs .entry)) (now (device .entry)) (now (local .entry)) ⌝ }
+{
+    let test = test_launch(settings, code, regs);
+    match test {
+        Checked::Refused(number, place) => refused(number, place, not_launched()),
+        Checked::Fine => {
+            fill_with(local, FILL);
+            run_from(
+                settings,
+                launched(settings.lanes),
+                code,
+                regs,
+                device,
+                local,
+            )
+        }
+    }
+}
+
+// A kernel from a state that an earlier run returned, or any other that fits. Refusals 1 to 11 change nothing lent and return the state
+// handed in.
+pub fn resume(
+    settings: Settings,
+    state: State,
+    code: &[u32],
+    regs: &mut [u32],
+    device: &mut [u32],
+    local: &mut [u32],
+) -> Replayed
+    ensures { λ r. ⌜
+        answered r (now (regs .exit)) (now (device .exit)) (now (local .exit))
+        ≡ resumeOf settings state (now (code .entry)) (now (regs .entry)) (now (device .entry)) (now (local .entry)) ⌝ }
+{
+    let test = test_resume(settings, state, code, regs);
+    match test {
+        Checked::Refused(number, place) => refused(number, place, state),
+        Checked::Fine => run_from(settings, state, code, regs, device, local),
+    }
+}
+
+// The same with no test of code and state, for a caller that has had them checked. Code that is no instruction does nothing, and refusals
+// 1 to 3 are tested all the same.
+pub fn go_on(
+    settings: Settings,
+    state: State,
+    code: &[u32],
+    regs: &mut [u32],
+    device: &mut [u32],
+    local: &mut [u32],
+) -> Replayed
+    ensures { λ r. ⌜
+        answered r (now (regs .exit)) (now (device .exit)) (now (local .exit))
+        ≡ goOnOf settings state (now (code .entry)) (now (regs .entry)) (now (device .entry)) (now (local .entry)) ⌝ }
+{
+    let test = test_bounds(settings, code, regs);
+    match test {
+        Checked::Refused(number, place) => refused(number, place, state),
+        Checked::Fine => run_from(settings, state, code, regs, device, local),
+    }
+}

@@ -1,0 +1,150 @@
+// One step of the wave: an instruction carried out by the executing lanes.
+use crate::settings::Settings;
+use compute::Faults;
+use compute::Shape;
+use compute::carry_out;
+use lanes::Lanes;
+use lanes::first;
+use wave::control::control;
+use wave::rules::going::onward_by;
+use wave::rules::guarding::executing;
+use wave::state::Hot;
+use wave::state::PATH_NUMBERS;
+use wave::state::whole;
+use words::fetching::ControlIn;
+use words::fetching::control_in;
+use words::fetching::word_count;
+use words::instr::Instr;
+ghost use mathlib.Core.Path.{_≡_};
+ghost use mathlib.Core.List.{List};
+ghost use Prim.Native.Nat.{ℕ};
+ghost use Rattle.wave.specs.Wave.{waveOf, predsOf};
+ghost use Rattle.compute.specs.Faulting.{clear};
+ghost use Rattle.words.specs.Fetching.{controlIn};
+ghost use Rattle.replay.specs.Machine.{machineOf, named, withNamed, hotWith};
+ghost use Rattle.replay.specs.Step.{noFaults, ordinaryOf, stepped, stepOf, withBarrier};
+
+// After a step: the faults, and the hot numbers.
+pub struct StepAnswer {
+    pub faults: Faults,
+    pub hot: Hot,
+}
+
+// Whether no lane faults.
+pub fn is_clear(f: Faults) -> bool
+    ensures { λ r. ⌜ r ≡ clear f ⌝ }
+{
+    (f.odd == 0) & (f.device == 0) & (f.local == 0) & (f.divisor == 0) & (f.barrier == 0)
+}
+
+// The faults, with the lanes of a barrier.
+fn with_barrier(barrier: Lanes, f: Faults) -> Faults
+    ensures { λ r. ⌜ r ≡ withBarrier barrier f ⌝ }
+{
+    Faults {
+        odd: f.odd,
+        device: f.device,
+        local: f.local,
+        divisor: f.divisor,
+        barrier,
+    }
+}
+
+// The faults of a barrier alone.
+fn barrier_alone(barrier: Lanes) -> Faults
+    ensures { λ r. ⌜ r ≡ withBarrier barrier noFaults ⌝ }
+{
+    Faults {
+        odd: 0,
+        device: 0,
+        local: 0,
+        divisor: 0,
+        barrier,
+    }
+}
+
+// The set of predicate `k`; none where there is no such predicate.
+fn named_set(k: u8, h: Hot) -> Lanes
+    ensures { λ r. ⌜ r ≡ named k (predsOf h) ⌝ }
+{
+    match k {
+        1 => h.p1,
+        2 => h.p2,
+        3 => h.p3,
+        _ => 0,
+    }
+}
+
+// The hot numbers, with `set` for predicate `k`.
+fn with_named(k: u8, set: Lanes, h: Hot) -> Hot
+    ensures { λ r. ⌜ r ≡ hotWith h (withNamed k set (predsOf h)) ⌝ }
+{
+    let mut n = h;
+    match k {
+        1 => n.p1 = set,
+        2 => n.p2 = set,
+        3 => n.p3 = set,
+        _ => {}
+    }
+    n
+}
+
+// An instruction that is no control instruction, by the lanes t: on by its words, or where some lane faults, as before it.
+fn ordinary(
+    x: Instr,
+    t: Lanes,
+    settings: Settings,
+    h: Hot,
+    regs: &mut [u32],
+    device: &mut [u32],
+    local: &mut [u32],
+) -> StepAnswer
+    ensures { λ r. ⌜ ((path : List ℕ) →
+        stepped r path (now (regs .exit)) (now (device .exit)) (now (local .exit))
+        ≡ ordinaryOf settings x t (machineOf h path (now (regs .entry)) (now (device .entry)) (now (local .entry)))) ⌝ }
+{
+    let rd = x.rd;
+    let op = x.op;
+    let shape = Shape {
+        width: settings.width,
+        registers: settings.registers,
+    };
+    let c = carry_out(x, t, named_set(rd, h), shape, regs, device, local);
+    let faults = with_barrier(0, c.faults);
+    if is_clear(faults) {
+        let n = onward_by(word_count(op), h);
+        let hot = with_named(rd, c.predicate, n);
+        return StepAnswer { faults, hot };
+    }
+    StepAnswer { faults, hot: h }
+}
+
+// One step. The machine afterwards is what `stepOf` says; a fault leaves it as it was.
+pub(crate) fn step(
+    x: Instr,
+    settings: Settings,
+    h: Hot,
+    path: &mut [u32; PATH_NUMBERS],
+    regs: &mut [u32],
+    device: &mut [u32],
+    local: &mut [u32],
+) -> StepAnswer
+    ensures { λ r. ⌜
+        stepped r (now (path .exit)) (now (regs .exit)) (now (device .exit)) (now (local .exit))
+        ≡ stepOf settings x (machineOf h (now (path .entry)) (now (regs .entry)) (now (device .entry)) (now (local .entry))) ⌝ }
+{
+    let guard = x.guard;
+    let op = x.op;
+    let t = executing(guard, h);
+    let kind = control_in(op);
+    match kind {
+        ControlIn::Control(o) => {
+            whole(path);
+            let a = control(o, t, first(settings.lanes), h, path);
+            let hot = a.hot;
+            let faults = barrier_alone(a.barrier);
+            StepAnswer { faults, hot }
+        }
+        ControlIn::Other => ordinary(x, t, settings, h, regs, device, local),
+    }
+}

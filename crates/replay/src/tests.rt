@@ -1,0 +1,87 @@
+// The refusals of a run, in their order.
+use crate::settings::Settings;
+use blocks::structure::Checked;
+use blocks::structure::check;
+use wave::fits::fits;
+use wave::state::State;
+ghost use mathlib.Core.Path.{_≡_};
+ghost use lib.ListN.{length};
+ghost use Prim.Native.Nat.{_*_};
+ghost use Rattle.replay.specs.Replay.{settingsRight, unless, thenTest, boundsTest, launchTest, resumeTest};
+
+// What the page allows at most.
+pub const MOST_REGISTERS: u32 = 256;
+
+pub const MOST_STEPS: u32 = 1_000_000_000;
+
+pub const MOST_WORDS: usize = 65536;
+
+// Whether every setting is allowed.
+fn settings_right(s: Settings) -> bool
+    ensures { λ r. ⌜ r ≡ settingsRight s ⌝ }
+{
+    ((s.width == 8) | (s.width == 16) | (s.width == 32))
+        & (1 <= s.registers)
+        & (s.registers <= MOST_REGISTERS)
+        & (1 <= s.lanes)
+        & (s.lanes <= s.width)
+        & (s.budget <= MOST_STEPS)
+}
+
+// Fine, or the refusal `number` at place 0.
+pub(crate) fn refuse_unless(ok: bool, number: u32) -> Checked
+    ensures { λ r. ⌜ r ≡ unless ok number ⌝ }
+{
+    if ok {
+        Checked::Fine
+    } else {
+        Checked::Refused(number, 0)
+    }
+}
+
+// The first refusal of two tests.
+pub(crate) fn then_test(first: Checked, next: Checked) -> Checked
+    ensures { λ r. ⌜ r ≡ thenTest first next ⌝ }
+{
+    match first {
+        Checked::Fine => next,
+        Checked::Refused(number, place) => Checked::Refused(number, place),
+    }
+}
+
+// 1 a setting, 2 code too long, 3 register buffer length.
+pub(crate) fn test_bounds(s: Settings, code: &[u32], regs: &[u32]) -> Checked
+    ensures { λ r. ⌜ r ≡ boundsTest s (now (code .entry)) (now (regs .entry)) ⌝ }
+{
+    let set = refuse_unless(settings_right(s), 1);
+    let short = refuse_unless(code.len() <= MOST_WORDS, 2);
+    let size = (s.width as usize) * (s.registers as usize);
+    let buffer = refuse_unless(regs.len() == size, 3);
+    then_test(set, then_test(short, buffer))
+}
+
+// 1 to 3, then instruction by instruction 4 to 9, then 10. The code is read only where it is not too long.
+pub(crate) fn test_launch(s: Settings, code: &[u32], regs: &[u32]) -> Checked
+    ensures { λ r. ⌜ r ≡ launchTest s (now (code .entry)) (now (regs .entry)) ⌝ }
+{
+    let bounds = test_bounds(s, code, regs);
+    match bounds {
+        Checked::Refused(number, place) => Checked::Refused(number, place),
+        Checked::Fine => check(code, s.registers),
+    }
+}
+
+// 1 to 10, then 11: the state doesn't fit.
+pub(crate) fn test_resume(s: Settings, state: State, code: &[u32], regs: &[u32]) -> Checked
+    ensures { λ r. ⌜ r ≡ resumeTest s state (now (code .entry)) (now (regs .entry)) ⌝ }
+{
+    let launch = test_launch(s, code, regs);
+    match launch {
+        Checked::Refused(number, place) => Checked::Refused(number, place),
+        Checked::Fine => {
+            let hot = state.hot;
+            let path = state.blocks;
+            refuse_unless(fits(code, s.registers, s.lanes, hot, &path), 11)
+        }
+    }
+}

@@ -1,0 +1,99 @@
+-- What is fetched at a place: by the numbers that the code has; and that it is what reading gives there, where reading gives anything.
+use mathlib.Core.Path.{_≡_, refl, sym, ap, _∙_}
+use mathlib.Core.Bool.{Bool, true, false, cond, _&&_}
+use mathlib.Core.List.{List, [], _∷_}
+use Prim.Native.Nat.{ℕ, suc, _≤_, _<_, _+_}
+use native.Mathlib.Omega.{arith}
+use lib.Dec.{ltb}
+use lib.ListN.{length, getD, drop, drop-of-length-le}
+use lib.Seq.{drop-cons, getD-drop}
+use Rattle.words.specs.declared.instr.ControlOp.{ControlOp}
+use Rattle.words.specs.declared.instr.Instr.{Instr}
+use Rattle.words.specs.declared.instr.Op.{Op}
+use Rattle.words.specs.declared.forms.Second.{Second}
+use Rattle.words.specs.declared.forms.Limits.{Limits}
+use Rattle.words.specs.declared.fetching.ControlIn.{ControlIn}
+use Rattle.words.specs.declared.reading.ReadAnswer.{ReadAnswer}
+use Rattle.words.specs.declared.table.FoundOp.{FoundOp}
+use Rattle.words.specs.Table.{opOf}
+use Rattle.words.specs.Forms.{limitsOf, sizeOf, size, fits}
+use Rattle.words.specs.Layout.{opcodeIn, modifierIn, instrIn, spareZero}
+use Rattle.words.specs.Refusals.{Rule}
+use Rattle.words.specs.Reading.{refused, readFields, readOp, readFrom, readAt}
+use Rattle.words.specs.Fetching.{nop, saidBy, saidFrom, instrAt, controlIn}
+
+-- ---- by the numbers that the code has
+module _ (ws : List ℕ) (at : ℕ) where
+  pub fetch-past : length ws ≤ at → instrAt ws at ≡ nop
+  unfolding instrAt
+  fetch-past h = rw (drop-of-length-le ws h)
+
+  module _ (here : at < length ws) where
+    said : instrAt ws at ≡ saidBy (opOf (opcodeIn (getD ws at 0)) (modifierIn (getD ws at 0))) (getD ws at 0) (getD ws (at + 1) 0)
+    unfolding instrAt
+    said =
+        let next : suc at + 0 ≡ at + 1 = omega arith in
+        rw (drop-cons ws at 0 here, getD-drop (suc at) ws 0 0, next)
+
+    pub fetch-missing : opOf (opcodeIn (getD ws at 0)) (modifierIn (getD ws at 0)) ≡ FoundOp.Missing → instrAt ws at ≡ nop
+    fetch-missing e = said ∙ rw e
+
+    pub fetch-carried :
+        (o : Op) (l : Limits) (v : ℕ) → opOf (opcodeIn (getD ws at 0)) (modifierIn (getD ws at 0)) ≡ FoundOp.Carried o → l ≡ limitsOf o →
+        v ≡ getD ws (at + 1) 0 → instrAt ws at ≡ instrIn (l .second) o (getD ws at 0) v
+    fetch-carried o l v e el ev = said ∙ rw (e, el, ev)
+
+-- ---- what reading gives
+-- a refusal is no instruction
+not-read : {A : Type 0} (k p n : ℕ) (i : Instr) → ReadAnswer.Refused k p ≡ ReadAnswer.Read i n → A
+not-read k p n i e = absurd (let z : _≡_ {A = ℕ} 0 1 = cc in omega arith)
+
+late : (t : Bool) (k p n : ℕ) (a : ReadAnswer) (i : Instr) → cond t (ReadAnswer.Refused k p) a ≡ ReadAnswer.Read i n → a ≡ ReadAnswer.Read i n
+late true k p n a i e = not-read k p n i e
+late false k p n a i e = e
+
+early :
+    (t : Bool) (k p m n : ℕ) (x i : Instr) → cond t (ReadAnswer.Read x m) (ReadAnswer.Refused k p) ≡ ReadAnswer.Read i n → (x ≡ i) × (m ≡ n)
+early true k p m n x i e = (cc, cc)
+early false k p m n x i e = not-read k p n i e
+
+-- the operation stands in the instruction, whatever the second word is
+op-stays : (s : Second) (o : Op) (w v : ℕ) → size (instrIn s o w v .op) ≡ size o
+op-stays Second.Nothing o w v = refl
+op-stays Second.Number o w v = refl
+op-stays (Second.Registers a b c) o w v = refl
+
+by-op : (f : FoundOp) (w : ℕ) (ws : List ℕ) (at n : ℕ) (i : Instr) → readOp f w ws at ≡ ReadAnswer.Read i n → (saidBy f w (getD ws 0 0) ≡ i) × (size (i .op) ≡ n)
+by-op FoundOp.Missing w ws at n i e = not-read _ _ n i e
+by-op (FoundOp.Carried o) w ws at n i e =
+    let l = limitsOf o in
+    let x : Instr = instrIn (l .second) o w (getD ws 0 0) in
+    let p =
+    early (spareZero (l .second) w (getD ws 0 0) && fits l x) 6 at (sizeOf (l .second)) n x i
+    (late (ltb (suc (length ws)) (sizeOf (l .second))) 5 at n (readFields o l w (getD ws 0 0) at) i e) in
+    (p .0, ap (λ (x : Instr). size (x .op)) (sym (p .0)) ∙ op-stays (limitsOf o .second) o w (getD ws 0 0) ∙ p .1)
+
+from-words : (ws : List ℕ) (at n : ℕ) (i : Instr) → readFrom ws at ≡ ReadAnswer.Read i n → (saidFrom ws ≡ i) × (size (i .op) ≡ n)
+from-words [] at n i e = not-read _ _ n i e
+from-words (w ∷ ws) at n i e = by-op (opOf (opcodeIn w) (modifierIn w)) w ws at n i e
+
+-- where reading gives an instruction, it is the one that is fetched, and it has as many words as its operation
+pub fetched : (ws : List ℕ) (at n : ℕ) (i : Instr) → readAt ws at ≡ ReadAnswer.Read i n → (instrAt ws at ≡ i) × (size (i .op) ≡ n)
+unfolding instrAt
+fetched ws at n i e = from-words (drop at ws) at n i e
+
+-- ---- control
+other : {A : Type 0} (o : ControlOp) → ControlIn.Other ≡ ControlIn.Control o → A
+other o e = absurd (let z : _≡_ {A = ℕ} 0 1 = cc in omega arith)
+
+pub control-is : (op : Op) (o : ControlOp) → controlIn op ≡ ControlIn.Control o → op ≡ Op.Control o
+control-is (Op.Control a) o e = cc
+control-is (Op.Two a) o e = other o e
+control-is (Op.Compare a) o e = other o e
+control-is (Op.One a) o e = other o e
+control-is Op.Special o e = other o e
+control-is Op.Number o e = other o e
+control-is (Op.Load s) o e = other o e
+control-is (Op.Store s) o e = other o e
+control-is (Op.Atomic a) o e = other o e
+control-is Op.Cas o e = other o e

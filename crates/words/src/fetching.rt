@@ -1,0 +1,92 @@
+// The instruction at a place of code that has passed the check: what its words say, with no test of them.
+use crate::forms::limits_of;
+use crate::instr::ControlOp;
+use crate::instr::Guard;
+use crate::instr::Instr;
+use crate::instr::Op;
+use crate::reading::instr_in;
+use crate::reading::word_at;
+use crate::table::FoundOp;
+use crate::table::op_of;
+ghost use mathlib.Core.Path.{_≡_};
+ghost use Rattle.words.specs.Fetching.{nop, instrAt, controlIn};
+ghost use Rattle.words.specs.Forms.{size};
+
+// A control operation, or any other.
+pub enum ControlIn {
+    Control(ControlOp),
+    Other,
+}
+
+// NOP, for every lane.
+fn no_operation() -> Instr
+    ensures { λ r. ⌜ r ≡ nop ⌝ }
+{
+    Instr {
+        op: Op::Control(ControlOp::Nop),
+        guard: Guard {
+            pred: 0,
+            negate: false,
+        },
+        rd: 0,
+        rs1: 0,
+        rs2: 0,
+        rs3: 0,
+        scope: 0,
+        number: 0,
+    }
+}
+
+// What the words at a place say. NOP where no word stands, or none that names an operation.
+pub fn instr_at(words: &[u32], at: usize) -> Instr
+    ensures { λ r. ⌜ r ≡ instrAt (now (words .entry)) at ⌝ }
+{
+    if words.len() <= at {
+        return no_operation();
+    }
+    let first = words[at];
+    let found = op_of(first / 0x1000000, first / 16 % 16);
+    let FoundOp::Carried(op) = found else {
+        return no_operation();
+    };
+    let limits = limits_of(op);
+    let second = limits.second;
+    let word = word_at(words, at + 1);
+    instr_in(second, op, first, word)
+}
+
+// Which control operation an operation is, if it is one.
+pub fn control_in(op: Op) -> ControlIn
+    ensures { λ r. ⌜ r ≡ controlIn op ⌝ }
+{
+    match op {
+        Op::Control(o) => ControlIn::Control(o),
+        Op::Two(_) => ControlIn::Other,
+        Op::Compare(_) => ControlIn::Other,
+        Op::One(_) => ControlIn::Other,
+        Op::Special => ControlIn::Other,
+        Op::Number => ControlIn::Other,
+        Op::Load(_) => ControlIn::Other,
+        Op::Store(_) => ControlIn::Other,
+        Op::Atomic(_) => ControlIn::Other,
+        Op::Cas => ControlIn::Other,
+    }
+}
+
+// How many words an operation's instructions have.
+pub fn word_count(op: Op) -> u32
+    ensures { λ r. ⌜ r ≡ size op ⌝ }
+{
+    match op {
+        Op::Two(_) => 2,
+        Op::Compare(_) => 2,
+        Op::One(_) => 1,
+        Op::Special => 1,
+        Op::Number => 2,
+        Op::Load(_) => 2,
+        Op::Store(_) => 2,
+        Op::Atomic(_) => 2,
+        Op::Cas => 2,
+        Op::Control(_) => 1,
+    }
+}
