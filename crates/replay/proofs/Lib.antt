@@ -2,5 +2,4 @@ pub mod Runs
 pub mod Adding
 pub mod Stepping
 pub mod Entering
-pub mod Fills
 pub mod OneAnswer

@@ -3,7 +3,7 @@ use mathlib.Core.Path.{_≡_, refl}
 use Prim.Native.Nat.{_-_, _≤_}
 use native.Mathlib.Omega.{arith}
 use lib.ListN.{length, length-set}
-use Rattle.replay.proofs.Fills.{filledTo, fill-turn, fill-end}
+use Rattle.ground.proofs.Fills.{filledTo, fill-turn, fill-end}
 use borrow.Author.Needs.{needs}
 use Rattle.replay.proofs.filling.fill_with.Statement.{statement}
 use Rattle.replay.proofs.filling.fill_with.Tie as tie
