@@ -1,5 +1,6 @@
 pub mod Runs
 pub mod Adding
+pub mod Keeping
 pub mod Stepping
 pub mod Entering
 pub mod Fills
