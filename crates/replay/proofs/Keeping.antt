@@ -10,8 +10,9 @@ use borrow.Author.Tests.{leb-false}
 use lib.Dec.{eqb, leb}
 use lib.ListN.{length}
 use Rattle.ground.proofs.Bools.{never, split}
-use Rattle.lanes.specs.Sets.{bit, first, without}
-use Rattle.lanes.proofs.Bits.{bit-zero}
+use Rattle.lanes.specs.Sets.{bit, has, first, without}
+use Rattle.lanes.proofs.Bits.{bit-le, bit-zero}
+use Rattle.lanes.proofs.Members.{bit-has}
 use Rattle.words.specs.declared.instr.Op.{Op}
 use Rattle.words.specs.declared.instr.Instr.{Instr}
 use Rattle.words.specs.Forms.{limitsOf, size}
@@ -45,10 +46,20 @@ use Rattle.replay.specs.Run.{endedOf, stepAt, runOf, Ran}
 use Rattle.replay.specs.Replay.{mostWords}
 use Rattle.replay.proofs.Runs.{at-ended, at-budget, at-fault, at-clear}
 
--- what is asked of an instruction's work on registers and memories: the lanes t alone join a predicate, and no register is added or lost
+-- what is asked of an instruction's work on registers and memories: at lanes other than t a predicate stays as it was, and no register is
+-- added or lost
 pub record OfCarrying : Type 0 where
-  pub joining : (shape : Shape) (x : Instr) (t : ℕ) (m : Lent) (i : ℕ) → bit (carriedOf shape x t m .after .predicate) i ≤ max (bit (m .predicate) i) (bit t i)
-  pub registers : (shape : Shape) (x : Instr) (t : ℕ) (m : Lent) → length (carriedOf shape x t m .after .regs) ≡ length (m .regs)
+  pub other-bits : (shape : Shape) (x : Instr) (t : ℕ) (m : Lent) (i : ℕ) → has t i ≡ false
+      → has (carriedOf shape x t m .after .predicate) i ≡ has (m .predicate) i
+  pub length-regs : (shape : Shape) (x : Instr) (t : ℕ) (m : Lent) → length (carriedOf shape x t m .after .regs) ≡ length (m .regs)
+
+-- so that the lanes t alone join a predicate
+joined : (p q t i : ℕ) → (has t i ≡ false → has p i ≡ has q i) → bit p i ≤ max (bit q i) (bit t i)
+joined p q t i h =
+    ⊎-elim
+    (λ e. let z : bit t i ≡ 1 = bit-has t i ∙ ap (λ (c : Bool). cond c 1 0) e in omega (arith, bit-le p i))
+    (λ e. let z : bit p i ≡ bit q i = bit-has p i ∙ ap (λ (c : Bool). cond c 1 0) (h e) ∙ sym (bit-has q i) in omega arith)
+    (split (has t i))
 
 -- ---- predicates
 module _ (l : ℕ) (ps : Preds) (f : PredsFit l ps) where
@@ -135,7 +146,8 @@ module _ (code : List ℕ) (registers : ℕ) (checked : checkOf (codeOf code reg
         (λ i.
         omega (
           arith,
-          carrying .joining (shapeOf s) x (lanesOf x m) (record { predicate = named (x .rd) (m .preds); regs = m .regs; memories = m .memories }) i,
+          joined (computed s x (lanesOf x m) m .after .predicate) (named (x .rd) (m .preds)) (lanesOf x m) i
+          (carrying .other-bits (shapeOf s) x (lanesOf x m) (record { predicate = named (x .rd) (m .preds); regs = m .regs; memories = m .memories }) i),
           named-fits (first n) (m .preds) p (x .rd) i,
           executing-within (x .guard) (m .wave .active) (m .preds) i,
           active-launched n (m .wave) (m .preds) (f .sets) i,
@@ -190,7 +202,7 @@ module _ (carrying : OfCarrying) (s : Settings) (code : List ℕ) where
   step-long m =
       let x : Instr = instrAt code (m .wave .place) in
       either-long (clear (faultsIn s x m)) (carriedBy s x (lanesOf x m) m) m
-      (carrying .registers (shapeOf s) x (lanesOf x m) (record { predicate = named (x .rd) (m .preds); regs = m .regs; memories = m .memories }))
+      (carrying .length-regs (shapeOf s) x (lanesOf x m) (record { predicate = named (x .rd) (m .preds); regs = m .regs; memories = m .memories }))
 
   -- no step adds or loses a register
   pub run-long : (b : ℕ) (m : Machine) → length (runOf s code b m .end .regs) ≡ length (m .regs)

@@ -318,7 +318,7 @@ module _ (carrying : OfCarrying) (s : Settings) (code regs device local : List �
       let m : Machine = stateMachine state regs device local in
       let x = resumed (budgeted a s) code regs device local state t in
       let o = given-in-order s code l state regs device local long
-          (unless-true (fitsTest code (s .registers) (s .lanes) (state .hot) (state .blocks)) 11 fine) in
+      (unless-true (fitsTest code (s .registers) (s .lanes) (state .hot) (state .blocks)) 11 fine) in
       resumed (budgeted (a + b) s) code regs device local state
       (then-both (launchTest (budgeted (a + b) s) code regs) fitting (passes s code l (a + b) regs most long) fine)
       ∙ run-adds carrying s code l a b most m o (ap (λ (y : Answered). y .outcome) (sym x) ∙ e)
