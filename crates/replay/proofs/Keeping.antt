@@ -1,0 +1,221 @@
+-- A run of checked code keeps a fitting wave fitting: the instruction that is carried out is the one that the check saw, its lanes are
+-- active ones, and a predicate gains none but these.
+use mathlib.Core.Path.{_≡_, refl, sym, ap, _∙_, subst}
+use mathlib.Core.Bool.{Bool, true, false, cond, _||_}
+use mathlib.Core.Logic.{⊎-elim}
+use mathlib.Core.List.{List}
+use Prim.Native.Nat.{ℕ, zero, suc, _+_, _^_, _≤_, _<_, max}
+use native.Mathlib.Omega.{arith}
+use borrow.Author.Tests.{leb-false}
+use lib.Dec.{eqb, leb}
+use lib.ListN.{length}
+use Rattle.ground.proofs.Bools.{never, split}
+use Rattle.lanes.specs.Sets.{bit, has, first, without}
+use Rattle.lanes.proofs.Bits.{bit-le, bit-zero}
+use Rattle.lanes.proofs.Members.{bit-has}
+use Rattle.words.specs.declared.instr.Op.{Op}
+use Rattle.words.specs.declared.instr.Instr.{Instr}
+use Rattle.words.specs.Forms.{limitsOf, size}
+use Rattle.words.specs.Fetching.{instrAt}
+use Rattle.words.proofs.Sizes.{size-most}
+use Rattle.words.proofs.Fetches.{fetched}
+use Rattle.blocks.specs.declared.item.Item.{Item}
+use Rattle.blocks.specs.declared.structure.Checked.the-variants.{Fine}
+use Rattle.blocks.specs.Item.{itemOf, itemAt}
+use Rattle.blocks.specs.Code.{codeOf}
+use Rattle.blocks.specs.Scan.{Open, checkOf}
+use Rattle.blocks.specs.OpenAt.{Found, nowhere, there, openAt}
+use Rattle.blocks.proofs.Instructions.{Instruction, instruction-there}
+use Rattle.wave.specs.declared.state.Block.{Block}
+use Rattle.wave.specs.Wave.{Wave, Preds}
+use Rattle.wave.specs.Rules.{onwardBy}
+use Rattle.wave.specs.Control.{controlRule}
+use Rattle.wave.specs.Fits.{OpenThere, WaveFits}
+use Rattle.wave.proofs.AtLane.{PredsFit, fits-lanes, lanes-fit}
+use Rattle.wave.proofs.Guards.{executing-within}
+use Rattle.wave.proofs.Keeps.{active-launched}
+use Rattle.wave.proofs.Stays.{control-keeps, onward-keeps}
+use Rattle.compute.specs.declared.Shape.{Shape}
+use Rattle.compute.specs.Operands.{Lent}
+use Rattle.compute.specs.Faulting.{clear}
+use Rattle.compute.specs.Carrying.{carriedOf}
+use Rattle.replay.specs.declared.settings.Settings.{Settings}
+use Rattle.replay.specs.Machine.{Machine, named, preds, withNamed}
+use Rattle.replay.specs.Step.{shapeOf, launchedOf, lanesOf, computed, waveAfter, faultsIn, carriedBy, stepOf}
+use Rattle.replay.specs.Run.{endedOf, stepAt, runOf, Ran}
+use Rattle.replay.specs.Replay.{mostWords}
+use Rattle.replay.proofs.Runs.{at-ended, at-budget, at-fault, at-clear}
+
+-- what is asked of an instruction's work on registers and memories: at lanes other than t a predicate stays as it was, and no register is
+-- added or lost
+pub record OfCarrying : Type 0 where
+  pub other-bits : (shape : Shape) (x : Instr) (t : ℕ) (m : Lent) (i : ℕ) → has t i ≡ false
+      → has (carriedOf shape x t m .after .predicate) i ≡ has (m .predicate) i
+  pub length-regs : (shape : Shape) (x : Instr) (t : ℕ) (m : Lent) → length (carriedOf shape x t m .after .regs) ≡ length (m .regs)
+
+-- so that the lanes t alone join a predicate
+joined : (p q t i : ℕ) → (has t i ≡ false → has p i ≡ has q i) → bit p i ≤ max (bit q i) (bit t i)
+joined p q t i h =
+    ⊎-elim
+    (λ e. let z : bit t i ≡ 1 = bit-has t i ∙ ap (λ (c : Bool). cond c 1 0) e in omega (arith, bit-le p i))
+    (λ e. let z : bit p i ≡ bit q i = bit-has p i ∙ ap (λ (c : Bool). cond c 1 0) (h e) ∙ sym (bit-has q i) in omega arith)
+    (split (has t i))
+
+-- ---- predicates
+module _ (l : ℕ) (ps : Preds) (f : PredsFit l ps) where
+  chosen-fits : (a b c : Bool) (i : ℕ) → bit (cond a (ps .p1) (cond b (ps .p2) (cond c (ps .p3) 0))) i ≤ bit l i
+  chosen-fits true b c i = f .in1 i
+  chosen-fits false true c i = f .in2 i
+  chosen-fits false false true i = f .in3 i
+  chosen-fits false false false i = omega (arith, bit-zero i)
+
+  module _ (q : ℕ) (g : (i : ℕ) → bit q i ≤ bit l i) where
+    given-fits : (a b c : Bool) → PredsFit l (cond a (preds q (ps .p2) (ps .p3)) (cond b (preds (ps .p1) q (ps .p3)) (cond c (preds (ps .p1) (ps .p2) q) ps)))
+    given-fits true b c = record { in1 = g; in2 = f .in2; in3 = f .in3 }
+    given-fits false true c = record { in1 = f .in1; in2 = g; in3 = f .in3 }
+    given-fits false false true = record { in1 = f .in1; in2 = f .in2; in3 = g }
+    given-fits false false false = f
+
+  named-fits : (k i : ℕ) → bit (named k ps) i ≤ bit l i
+  named-fits k i = chosen-fits (eqb k 1) (eqb k 2) (eqb k 3) i
+
+  with-named-fits : (k q : ℕ) → ((i : ℕ) → bit q i ≤ bit l i) → PredsFit l (withNamed k q ps)
+  with-named-fits k q g = given-fits q g (eqb k 1) (eqb k 2) (eqb k 3)
+
+-- a wave that fits does so with any predicates of launched lanes
+other-preds : (code : List ℕ) (registers n : ℕ) (w : Wave) (ps qs : Preds) → PredsFit (first n) qs → WaveFits code registers n w ps
+    → WaveFits code registers n w qs
+other-preds code registers n w ps qs q f = record { blocks = f .blocks; sets = lanes-fit n w qs (fits-lanes n w ps (f .sets) .0) q }
+
+-- ---- a run that has not ended stands inside the code
+either-false : (a b : Bool) → (a || b) ≡ false → a ≡ false
+either-false true b e = never (sym e)
+either-false false b e = refl
+
+pub inside : (s : Settings) (code : List ℕ) (m : Machine) → endedOf s code m ≡ false → m .wave .place < length code
+inside s code m e =
+    leb-false (length code) (m .wave .place)
+    (either-false (leb (length code) (m .wave .place)) (eqb (without (launchedOf s) (m .wave .halted)) 0) e)
+
+-- ---- checked code
+module _ (code : List ℕ) (registers : ℕ) (checked : checkOf (codeOf code registers) ≡ Fine) (short : length code ≤ mostWords) where
+  fewer : length code < 2 ^ 32
+  fewer = omega arith
+
+  -- the instruction that is carried out is the one that the check saw
+  found-instruction : (place : ℕ) (path : List Block) → place < length code → (x : Found) → openAt (codeOf code registers) place ≡ x → OpenThere x path
+      → Instruction code registers place
+  found-instruction place path h nowhere e f = absurd f
+  found-instruction place path h (there o) e f = instruction-there code registers place checked o e h
+
+  pub item-there : (place : ℕ) (path : List Block) → place < length code → OpenThere (openAt (codeOf code registers) place) path
+      → itemAt code registers place ≡ itemOf (instrAt code place .op) (size (instrAt code place .op))
+  item-there place path h f =
+      let i = found-instruction place path h (openAt (codeOf code registers) place) refl f in
+      let r = fetched code place (i .width) (i .instr) (i .reads) in
+      i .item-is ∙ ap (itemOf (i .instr .op)) (sym (r .1)) ∙ ap (λ (x : Instr). itemOf (x .op) (size (x .op))) (sym (r .0))
+
+  module _ (n all t : ℕ) (w : Wave) (ps qs : Preds) (h : w .place < length code) (lanes : (i : ℕ) → bit t i ≤ bit (w .active) i)
+      (q : PredsFit (first n) qs) (f : WaveFits code registers n w ps) where
+    plain-keeps : (op : Op) → itemAt code registers (w .place) ≡ Item.Plain (size op) → WaveFits code registers n (onwardBy (size op) w) qs
+    plain-keeps op i = onward-keeps code registers checked fewer w h n (size op) ps qs i (omega (arith, size-most (limitsOf op .second))) q f
+
+    wave-keeps : (op : Op) → itemAt code registers (w .place) ≡ itemOf op (size op) → WaveFits code registers n (waveAfter op all t w) qs
+    wave-keeps (Op.Control o) i =
+        other-preds code registers n (controlRule o all t w) ps qs q (control-keeps code registers checked fewer w h o n all t ps i lanes f)
+    wave-keeps (Op.Two o) i = plain-keeps (Op.Two o) i
+    wave-keeps (Op.Compare o) i = plain-keeps (Op.Compare o) i
+    wave-keeps (Op.One o) i = plain-keeps (Op.One o) i
+    wave-keeps Op.Special i = plain-keeps Op.Special i
+    wave-keeps Op.Number i = plain-keeps Op.Number i
+    wave-keeps (Op.Load s) i = plain-keeps (Op.Load s) i
+    wave-keeps (Op.Store s) i = plain-keeps (Op.Store s) i
+    wave-keeps (Op.Atomic o) i = plain-keeps (Op.Atomic o) i
+    wave-keeps Op.Cas i = plain-keeps Op.Cas i
+
+  module _ (carrying : OfCarrying) (s : Settings) (n : ℕ) where
+    -- the wave and its predicates fit
+    abbrev MachineFits : Machine → Type 0
+    MachineFits m = WaveFits code registers n (m .wave) (m .preds)
+
+    preds-keep : (x : Instr) (m : Machine) → MachineFits m
+        → PredsFit (first n) (withNamed (x .rd) (computed s x (lanesOf x m) m .after .predicate) (m .preds))
+    preds-keep x m f =
+        let p = fits-lanes n (m .wave) (m .preds) (f .sets) .1 in
+        with-named-fits (first n) (m .preds) p (x .rd) (computed s x (lanesOf x m) m .after .predicate)
+        (λ i.
+        omega (
+          arith,
+          joined (computed s x (lanesOf x m) m .after .predicate) (named (x .rd) (m .preds)) (lanesOf x m) i
+          (carrying .other-bits (shapeOf s) x (lanesOf x m) (record { predicate = named (x .rd) (m .preds); regs = m .regs; memories = m .memories }) i),
+          named-fits (first n) (m .preds) p (x .rd) i,
+          executing-within (x .guard) (m .wave .active) (m .preds) i,
+          active-launched n (m .wave) (m .preds) (f .sets) i,
+        ))
+
+    carried-keeps : (m : Machine) → m .wave .place < length code → MachineFits m
+        → MachineFits (carriedBy s (instrAt code (m .wave .place)) (lanesOf (instrAt code (m .wave .place)) m) m)
+    carried-keeps m h f =
+        let x : Instr = instrAt code (m .wave .place) in
+        wave-keeps n (launchedOf s) (lanesOf x m) (m .wave) (m .preds)
+        (withNamed (x .rd) (computed s x (lanesOf x m) m .after .predicate) (m .preds)) h (executing-within (x .guard) (m .wave .active) (m .preds))
+        (preds-keep x m f) f (x .op) (item-there (m .wave .place) (m .wave .path) h (f .blocks))
+
+    chosen : (c : Bool) (v m : Machine) → MachineFits v → MachineFits m → MachineFits (cond c v m)
+    chosen true v m f g = f
+    chosen false v m f g = g
+
+    -- A STEP keeps a fitting wave fitting
+    pub step-keeps : (m : Machine) → m .wave .place < length code → MachineFits m → MachineFits (stepAt s code m .end)
+    unfolding stepOf
+    step-keeps m h f =
+        chosen (clear (faultsIn s (instrAt code (m .wave .place)) m))
+        (carriedBy s (instrAt code (m .wave .place)) (lanesOf (instrAt code (m .wave .place)) m) m) m (carried-keeps m h f) f
+
+    -- A RUN keeps it
+    pub run-keeps : (b : ℕ) (m : Machine) → MachineFits m → MachineFits (runOf s code b m .end)
+    run-keeps zero m f =
+        ⊎-elim
+        (λ e. subst (λ (r : Ran). MachineFits (r .end)) (sym (at-ended s code 0 m e)) f)
+        (λ e. subst (λ (r : Ran). MachineFits (r .end)) (sym (at-budget s code m e)) f)
+        (split (endedOf s code m))
+    run-keeps (suc b) m f =
+        ⊎-elim
+        (λ e. subst (λ (r : Ran). MachineFits (r .end)) (sym (at-ended s code (suc b) m e)) f)
+        (λ e.
+        ⊎-elim
+        (λ c.
+        subst (λ (r : Ran). MachineFits (r .end)) (sym (at-clear s code b m e c))
+        (run-keeps b (stepAt s code m .end) (step-keeps m (inside s code m e) f)))
+        (λ c. subst (λ (r : Ran). MachineFits (r .end)) (sym (at-fault s code b m e c)) f)
+        (split (clear (stepAt s code m .faults))))
+        (split (endedOf s code m))
+
+-- ---- the registers
+module _ (carrying : OfCarrying) (s : Settings) (code : List ℕ) where
+  either-long : (c : Bool) (v m : Machine) → length (v .regs) ≡ length (m .regs) → length (cond c v m .regs) ≡ length (m .regs)
+  either-long true v m e = e
+  either-long false v m e = refl
+
+  step-long : (m : Machine) → length (stepAt s code m .end .regs) ≡ length (m .regs)
+  unfolding stepOf
+  step-long m =
+      let x : Instr = instrAt code (m .wave .place) in
+      either-long (clear (faultsIn s x m)) (carriedBy s x (lanesOf x m) m) m
+      (carrying .length-regs (shapeOf s) x (lanesOf x m) (record { predicate = named (x .rd) (m .preds); regs = m .regs; memories = m .memories }))
+
+  -- no step adds or loses a register
+  pub run-long : (b : ℕ) (m : Machine) → length (runOf s code b m .end .regs) ≡ length (m .regs)
+  run-long zero m =
+      ⊎-elim (λ e. ap (λ (r : Ran). length (r .end .regs)) (at-ended s code 0 m e)) (λ e. ap (λ (r : Ran). length (r .end .regs)) (at-budget s code m e))
+      (split (endedOf s code m))
+  run-long (suc b) m =
+      ⊎-elim
+      (λ e. ap (λ (r : Ran). length (r .end .regs)) (at-ended s code (suc b) m e))
+      (λ e.
+      ⊎-elim
+      (λ c.
+      ap (λ (r : Ran). length (r .end .regs)) (at-clear s code b m e c) ∙ run-long b (stepAt s code m .end) ∙ step-long m)
+      (λ c. ap (λ (r : Ran). length (r .end .regs)) (at-fault s code b m e c))
+      (split (clear (stepAt s code m .faults))))
+      (split (endedOf s code m))

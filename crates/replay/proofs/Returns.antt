@@ -1,0 +1,325 @@
+-- What a launch or a resume answers can be handed in again: its state fits. And a run of a + b steps is a run of a, and, where that
+-- stopped for want of budget, a resume of b from what it answered.
+use mathlib.Core.Path.{_≡_, refl, sym, ap, _∙_, subst}
+use mathlib.Core.Bool.{Bool, true, false, cond, _&&_, _||_}
+use mathlib.Core.Logic.{⊎-elim}
+use mathlib.Core.List.{List}
+use Prim.Native.Nat.{ℕ, zero, suc, _+_, _*_, _≤_, min}
+use native.Mathlib.Nat.{min-eq-left}
+use native.Mathlib.Omega.{arith}
+use borrow.Author.Tests.{eqb-true, eq-eqb, leb-true, le-leb}
+use lib.Dec.{eqb, leb}
+use lib.ListN.{length}
+use Rattle.ground.proofs.Bools.{never, and-left, and-right, and-both}
+use Rattle.ground.proofs.Tests.{or-cases}
+use Rattle.lanes.specs.Sets.{widest}
+use Rattle.blocks.specs.declared.structure.Checked.{Checked}
+use Rattle.blocks.specs.declared.structure.Checked.the-variants.{Fine}
+use Rattle.blocks.specs.Code.{codeOf}
+use Rattle.blocks.specs.Scan.{nesting, checkOf}
+use Rattle.wave.specs.declared.state.State.{State}
+use Rattle.wave.specs.Wave.{Wave, stateOf, launch, clear}
+use Rattle.wave.specs.Fits.{WaveFits, Fits}
+use Rattle.wave.specs.FitsTest.{fitsTest}
+use Rattle.wave.proofs.View.{wave-in}
+use Rattle.wave.proofs.Fitting.{fits-test}
+use Rattle.wave.proofs.Stays.{path-room, launch-fits, state-fits}
+use Rattle.compute.specs.Memory.{Memories}
+use Rattle.replay.specs.declared.settings.Settings.{Settings}
+use Rattle.replay.specs.declared.answers.Outcome.{Outcome}
+use Rattle.replay.specs.declared.answers.Outcome.the-variants.{Ended, OutOfBudget, Fault, Refused}
+use Rattle.replay.specs.Machine.{Machine}
+use Rattle.replay.specs.Step.{launchedLanes, stepOf}
+use Rattle.replay.specs.Run.{Ran, stop, later, endedOf, stepAt, onward, runOf}
+use Rattle.replay.specs.Run as run
+use Rattle.replay.specs.Replay.{
+  mostRegisters,
+  mostSteps,
+  mostWords,
+  settingsRight,
+  thenTest,
+  unless,
+  boundsTest,
+  launchTest,
+  resumeTest,
+  Answered,
+  refusal,
+  ending,
+  byTest,
+  runFrom,
+  launchMachine,
+  notLaunched,
+  memories,
+  launchOf,
+  stateMachine,
+  resumeOf,
+}
+use Rattle.replay.proofs.Adding.{following, goOn, runs-add}
+use Rattle.replay.proofs.Keeping.{OfCarrying, run-keeps, run-long}
+
+-- ---- what a test that was passed says
+then-first : (v next : Checked) → thenTest v next ≡ Fine → v ≡ Fine
+then-first Checked.Fine next e = refl
+then-first (Checked.Refused k p) next e = e
+
+then-second : (v next : Checked) → thenTest v next ≡ Fine → next ≡ Fine
+then-second Checked.Fine next e = e
+then-second (Checked.Refused k p) next e = absurd (let z : _≡_ {A = ℕ} 0 1 = cc in omega arith)
+
+then-both : (v next : Checked) → v ≡ Fine → next ≡ Fine → thenTest v next ≡ Fine
+then-both v next e f = rw (e, f)
+
+unless-true : (ok : Bool) (number : ℕ) → unless ok number ≡ Fine → ok ≡ true
+unless-true true number e = refl
+unless-true false number e = absurd (let z : _≡_ {A = ℕ} 0 1 = cc in omega arith)
+
+true-unless : (ok : Bool) (number : ℕ) → ok ≡ true → unless ok number ≡ Fine
+true-unless ok number e = rw e
+
+-- ---- the settings, with another budget
+abbrev pub budgeted : ℕ → Settings → Settings
+budgeted b s = record { width = s .width; registers = s .registers; lanes = s .lanes; budget = b }
+
+-- what the tests of a launch ask, the budget's apart
+pub record Launchable (s : Settings) (code : List ℕ) : Type 0 where
+  pub widths : (eqb (s .width) 8 || eqb (s .width) 16 || eqb (s .width) 32) ≡ true
+  pub some-register : leb 1 (s .registers) ≡ true
+  pub few-registers : leb (s .registers) mostRegisters ≡ true
+  pub some-lane : leb 1 (s .lanes) ≡ true
+  pub few-lanes : leb (s .lanes) (s .width) ≡ true
+  pub short : leb (length code) mostWords ≡ true
+  pub checked : checkOf (codeOf code (s .registers)) ≡ Fine
+
+pub launchable : (s : Settings) (b : ℕ) (code regs : List ℕ) → launchTest (budgeted b s) code regs ≡ Fine → Launchable s code
+launchable s b code regs e =
+    let t1 = then-first (boundsTest (budgeted b s) code regs) (checkOf (codeOf code (s .registers))) e in
+    let rest : Checked = thenTest (unless (leb (length code) mostWords) 2) (unless (eqb (length regs) (s .width * s .registers)) 3) in
+    let right : settingsRight (budgeted b s) ≡ true =
+    unless-true (settingsRight (budgeted b s)) 1 (then-first (unless (settingsRight (budgeted b s)) 1) rest t1) in
+    let c0 : Bool = (eqb (s .width) 8 || eqb (s .width) 16 || eqb (s .width) 32) in
+    let c1 : Bool = leb 1 (s .registers) in
+    let c2 : Bool = leb (s .registers) mostRegisters in
+    let c3 : Bool = leb 1 (s .lanes) in
+    let c4 : Bool = leb (s .lanes) (s .width) in
+    let c5 : Bool = leb b mostSteps in
+    let r4 : (c0 && c1 && c2 && c3 && c4) ≡ true = and-left (c0 && c1 && c2 && c3 && c4) c5 right in
+    let r3 : (c0 && c1 && c2 && c3) ≡ true = and-left (c0 && c1 && c2 && c3) c4 r4 in
+    let r2 : (c0 && c1 && c2) ≡ true = and-left (c0 && c1 && c2) c3 r3 in
+    let r1 : (c0 && c1) ≡ true = and-left (c0 && c1) c2 r2 in
+    record {
+      widths = and-left c0 c1 r1;
+      some-register = and-right c0 c1 r1;
+      few-registers = and-right (c0 && c1) c2 r2;
+      some-lane = and-right (c0 && c1 && c2) c3 r3;
+      few-lanes = and-right (c0 && c1 && c2 && c3) c4 r4;
+      short =
+          unless-true (leb (length code) mostWords) 2
+          (then-first (unless (leb (length code) mostWords) 2) (unless (eqb (length regs) (s .width * s .registers)) 3)
+          (then-second (unless (settingsRight (budgeted b s)) 1) rest t1));
+      checked = then-second (boundsTest (budgeted b s) code regs) (checkOf (codeOf code (s .registers))) e;
+    }
+
+right-length : (s : Settings) (code regs : List ℕ) → launchTest s code regs ≡ Fine → length regs ≡ s .width * s .registers
+right-length s code regs e =
+    let t1 = then-first (boundsTest s code regs) (checkOf (codeOf code (s .registers))) e in
+    let last : Checked = unless (eqb (length regs) (s .width * s .registers)) 3 in
+    let rest : Checked = thenTest (unless (leb (length code) mostWords) 2) last in
+    eqb-true (length regs) (s .width * s .registers)
+    (unless-true (eqb (length regs) (s .width * s .registers)) 3
+    (then-second (unless (leb (length code) mostWords) 2) last (then-second (unless (settingsRight s) 1) rest t1)))
+
+module _ (s : Settings) (code : List ℕ) (l : Launchable s code) where
+  -- the launched lanes are no more than the widest wave has
+  lanes-most : s .lanes ≤ widest
+  lanes-most =
+      let w : s .lanes ≤ s .width = leb-true (s .lanes) (s .width) (l .few-lanes) in
+      ⊎-elim
+      (λ e.
+      ⊎-elim (λ (k : eqb (s .width) 8 ≡ true). let z : s .width ≡ 8 = eqb-true (s .width) 8 k in omega arith)
+      (λ (k : eqb (s .width) 16 ≡ true). let z : s .width ≡ 16 = eqb-true (s .width) 16 k in omega arith)
+      (or-cases (eqb (s .width) 8) (eqb (s .width) 16) e))
+      (λ (k : eqb (s .width) 32 ≡ true). let z : s .width ≡ 32 = eqb-true (s .width) 32 k in omega arith)
+      (or-cases (eqb (s .width) 8 || eqb (s .width) 16) (eqb (s .width) 32) (l .widths))
+
+  -- they pass the test with any budget that is allowed and any buffer of the right length
+  passes : (b : ℕ) (regs : List ℕ) → b ≤ mostSteps → length regs ≡ s .width * s .registers → launchTest (budgeted b s) code regs ≡ Fine
+  passes b regs h e =
+      rw (
+        l .widths,
+        l .some-register,
+        l .few-registers,
+        l .some-lane,
+        l .few-lanes,
+        le-leb b mostSteps h,
+        l .short,
+        eq-eqb (length regs) (s .width * s .registers) e,
+        l .checked,
+      )
+
+  -- ---- a machine in order: its wave fits, and it has its registers
+  pub record InOrder (m : Machine) : Type 0 where
+    pub fits : WaveFits code (s .registers) (s .lanes) (m .wave) (m .preds)
+    pub long : length (m .regs) ≡ s .width * s .registers
+
+  launch-in-order : (regs device local : List ℕ) → length regs ≡ s .width * s .registers → InOrder (launchMachine s regs device local)
+  launch-in-order regs device local e =
+      let z : launchedLanes s ≡ s .lanes = min-eq-left lanes-most in
+      record { fits = rw z (launch-fits code (s .registers) (s .lanes)); long = e }
+
+  given-in-order : (state : State) (regs device local : List ℕ) → length regs ≡ s .width * s .registers
+      → fitsTest code (s .registers) (s .lanes) (state .hot) (state .blocks) ≡ true → InOrder (stateMachine state regs device local)
+  given-in-order state regs device local e t =
+      record { fits = fits-test code (s .registers) (s .lanes) (state .hot) (state .blocks) .0 t .wave; long = e }
+
+  module _ (carrying : OfCarrying) where
+    -- and stays so
+    run-in-order : (b : ℕ) (m : Machine) → InOrder m → InOrder (runOf s code b m .end)
+    run-in-order b m o =
+        record {
+          fits = run-keeps code (s .registers) (l .checked) (leb-true (length code) mostWords (l .short)) carrying s (s .lanes) b m (o .fits);
+          long = run-long carrying s code b m ∙ o .long;
+        }
+
+    -- THE STATE that a run answers fits
+    pub returned-fits : (b : ℕ) (m : Machine) → InOrder m
+        → Fits code (s .registers) (s .lanes) (ending (runOf s code b m) .state .hot) (ending (runOf s code b m) .state .blocks)
+    returned-fits b m o =
+        let r : Machine = runOf s code b m .end in
+        state-fits code (s .registers) (s .lanes) (r .wave) (r .preds) lanes-most (run-in-order b m o .fits)
+
+    -- so that it goes on, with any budget that is allowed
+    goes-on-from : (b c : ℕ) (m : Machine) → InOrder m → c ≤ mostSteps
+        → resumeTest (budgeted c s) (ending (runOf s code b m) .state) code (ending (runOf s code b m) .regs) ≡ Fine
+    goes-on-from b c m o h =
+        let x : Answered = ending (runOf s code b m) in
+        then-both (launchTest (budgeted c s) code (x .regs))
+        (unless (fitsTest code (s .registers) (s .lanes) (x .state .hot) (x .state .blocks)) 11)
+        (passes c (x .regs) h (run-in-order b m o .long))
+        (true-unless (fitsTest code (s .registers) (s .lanes) (x .state .hot) (x .state .blocks)) 11
+        (fits-test code (s .registers) (s .lanes) (x .state .hot) (x .state .blocks) .1 (returned-fits b m o)))
+
+-- ---- the answers, once the tests are passed
+module _ (s : Settings) (code regs device local : List ℕ) where
+  pub launched : launchTest s code regs ≡ Fine → launchOf s code regs device local ≡ runFrom s code (launchMachine s regs device local)
+  unfolding launchOf
+  launched e = rw e
+
+  pub resumed : (state : State) → resumeTest s state code regs ≡ Fine
+      → resumeOf s state code regs device local ≡ runFrom s code (stateMachine state regs device local)
+  unfolding resumeOf
+  resumed state e = rw e
+
+  not-refused : (v : Checked) (f : Unit {0} → Answered) (state : State) (y : Memories) → byTest v f state regs y .outcome ≡ OutOfBudget → v ≡ Fine
+  not-refused Checked.Fine f state y e = refl
+  not-refused (Checked.Refused k p) f state y e = absurd (let z : _≡_ {A = ℕ} 0 1 = cc in omega arith)
+
+  launch-passed : launchOf s code regs device local .outcome ≡ OutOfBudget → launchTest s code regs ≡ Fine
+  unfolding launchOf
+  launch-passed e = not-refused (launchTest s code regs) _ _ _ e
+
+  resume-passed : (state : State) → resumeOf s state code regs device local .outcome ≡ OutOfBudget → resumeTest s state code regs ≡ Fine
+  unfolding resumeOf
+  resume-passed state e = not-refused (resumeTest s state code regs) _ _ _ e
+
+-- ---- WHAT A CALL ANSWERS can be handed in again: it is not refused
+module _ (carrying : OfCarrying) (s : Settings) (code regs device local : List ℕ) (c : ℕ) (most : c ≤ mostSteps) where
+  abbrev Resumes : Answered → Type 0
+  Resumes x = resumeTest (budgeted c s) (x .state) code (x .regs) ≡ Fine
+
+  pub launch-returns : launchTest s code regs ≡ Fine → Resumes (launchOf s code regs device local)
+  launch-returns e =
+      let l = launchable s (s .budget) code regs e in
+      subst Resumes (sym (launched s code regs device local e))
+      (goes-on-from s code l carrying (s .budget) c (launchMachine s regs device local) (launch-in-order s code l regs device local (right-length s code regs e)) most)
+
+  pub resume-returns : (state : State) → resumeTest s state code regs ≡ Fine → Resumes (resumeOf s state code regs device local)
+  resume-returns state e =
+      let fitting : Checked = unless (fitsTest code (s .registers) (s .lanes) (state .hot) (state .blocks)) 11 in
+      let first-tests : launchTest s code regs ≡ Fine = then-first (launchTest s code regs) fitting e in
+      let l = launchable s (s .budget) code regs first-tests in
+      subst Resumes (sym (resumed s code regs device local state e))
+      (goes-on-from s code l carrying (s .budget) c (stateMachine state regs device local)
+      (given-in-order s code l state regs device local (right-length s code regs first-tests)
+      (unless-true (fitsTest code (s .registers) (s .lanes) (state .hot) (state .blocks)) 11 (then-second (launchTest s code regs) fitting e)))
+      most)
+
+-- ---- a run does not look at the settings' budget
+run-budgeted : (a b : ℕ) (s : Settings) (code : List ℕ) (k : ℕ) (m : Machine) → runOf (budgeted a s) code k m ≡ runOf (budgeted b s) code k m
+unfolding runOf stepOf
+run-budgeted a b s code zero m = refl
+run-budgeted a b s code (suc k) m =
+    ap (λ (r : Ran). run.unless (endedOf s code m) (stop Ended m) (λ (u : Unit {0}). onward (stepAt s code m) m (λ (v : Unit {0}). r)))
+    (run-budgeted a b s code k (stepAt s code m .end))
+
+-- the machine that a state is made from is the one that it holds
+state-machine : (m : Machine) → length (m .wave .path) ≤ nesting
+    → stateMachine (stateOf (m .wave) (m .preds)) (m .regs) (m .memories .device) (m .memories .local) ≡ m
+state-machine m h =
+    ap (λ (w : Wave). record { wave = w; preds = m .preds; regs = m .regs; memories = m .memories }) (wave-in (m .wave) (m .preds) h)
+
+-- ---- STEPS ADD: n steps were made before
+abbrev pub added : ℕ → Answered → Answered
+added n x = record { outcome = x .outcome; steps = n + x .steps; state = x .state; regs = x .regs; memories = x .memories }
+
+-- going on from what was answered, with a budget of b
+abbrev pub resumedWith : ℕ → Settings → List ℕ → Answered → Answered
+resumedWith b s code x = resumeOf (budgeted b s) (x .state) code (x .regs) (x .memories .device) (x .memories .local)
+
+module _ (carrying : OfCarrying) (s : Settings) (code : List ℕ) (l : Launchable s code) (a b : ℕ) (most : a + b ≤ mostSteps) (m : Machine)
+    (o : InOrder s code l m) where
+  abbrev earlier : Ran
+  earlier = runOf (budgeted a s) code a m
+
+  further : resumedWith b s code (ending earlier) ≡ ending (runOf (budgeted b s) code b (earlier .end))
+  further =
+      let e = ap (λ (r : Ran). ending r) (run-budgeted a (s .budget) s code a m) in
+      let r : Machine = runOf s code a m .end in
+      ap (resumedWith b s code) e
+      ∙ resumed (budgeted b s) code (r .regs) (r .memories .device) (r .memories .local) (stateOf (r .wave) (r .preds))
+      (goes-on-from s code l carrying a b m o (omega arith))
+      ∙ ap (λ (k : Machine). ending (runOf (budgeted b s) code b k))
+      (state-machine r (path-room code (s .registers) (s .lanes) (r .wave) (r .preds) (run-in-order s code l carrying a m o .fits)))
+      ∙ ap (λ (r : Ran). ending (runOf (budgeted b s) code b (r .end))) (sym (run-budgeted a (s .budget) s code a m))
+
+  goes : earlier .outcome ≡ OutOfBudget → runOf (budgeted (a + b) s) code (a + b) m ≡ later (earlier .steps) (runOf (budgeted b s) code b (earlier .end))
+  goes e =
+      run-budgeted (a + b) a s code (a + b) m ∙ runs-add (budgeted a s) code b a m
+      ∙ ap (λ (x : Outcome). following x earlier (later (earlier .steps) (runOf (budgeted a s) code b (earlier .end)))) e
+      ∙ ap (later (earlier .steps)) (run-budgeted a b s code b (earlier .end))
+
+  run-adds : earlier .outcome ≡ OutOfBudget
+      → ending (runOf (budgeted (a + b) s) code (a + b) m) ≡ added (earlier .steps) (resumedWith b s code (ending earlier))
+  run-adds e = ap ending (goes e) ∙ ap (added (earlier .steps)) (sym further)
+
+module _ (carrying : OfCarrying) (s : Settings) (code regs device local : List ℕ) (a b : ℕ) (most : a + b ≤ mostSteps) where
+  pub launch-adds : launchOf (budgeted a s) code regs device local .outcome ≡ OutOfBudget
+      → launchOf (budgeted (a + b) s) code regs device local
+      ≡ added (launchOf (budgeted a s) code regs device local .steps) (resumedWith b s code (launchOf (budgeted a s) code regs device local))
+  launch-adds e =
+      let t = launch-passed (budgeted a s) code regs device local e in
+      let l = launchable s a code regs t in
+      let long = right-length (budgeted a s) code regs t in
+      let m : Machine = launchMachine s regs device local in
+      let x = launched (budgeted a s) code regs device local t in
+      launched (budgeted (a + b) s) code regs device local (passes s code l (a + b) regs most long)
+      ∙ run-adds carrying s code l a b most m (launch-in-order s code l regs device local long) (ap (λ (y : Answered). y .outcome) (sym x) ∙ e)
+      ∙ ap (λ (y : Answered). added (y .steps) (resumedWith b s code y)) (sym x)
+
+  pub resume-adds : (state : State) → resumeOf (budgeted a s) state code regs device local .outcome ≡ OutOfBudget
+      → resumeOf (budgeted (a + b) s) state code regs device local
+      ≡ added (resumeOf (budgeted a s) state code regs device local .steps) (resumedWith b s code (resumeOf (budgeted a s) state code regs device local))
+  resume-adds state e =
+      let t = resume-passed (budgeted a s) code regs device local state e in
+      let fitting : Checked = unless (fitsTest code (s .registers) (s .lanes) (state .hot) (state .blocks)) 11 in
+      let first-tests : launchTest (budgeted a s) code regs ≡ Fine = then-first (launchTest (budgeted a s) code regs) fitting t in
+      let fine : fitting ≡ Fine = then-second (launchTest (budgeted a s) code regs) fitting t in
+      let l = launchable s a code regs first-tests in
+      let long = right-length (budgeted a s) code regs first-tests in
+      let m : Machine = stateMachine state regs device local in
+      let x = resumed (budgeted a s) code regs device local state t in
+      let o = given-in-order s code l state regs device local long
+      (unless-true (fitsTest code (s .registers) (s .lanes) (state .hot) (state .blocks)) 11 fine) in
+      resumed (budgeted (a + b) s) code regs device local state
+      (then-both (launchTest (budgeted (a + b) s) code regs) fitting (passes s code l (a + b) regs most long) fine)
+      ∙ run-adds carrying s code l a b most m o (ap (λ (y : Answered). y .outcome) (sym x) ∙ e)
+      ∙ ap (λ (y : Answered). added (y .steps) (resumedWith b s code y)) (sym x)
