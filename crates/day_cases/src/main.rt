@@ -106,9 +106,9 @@ fn answer_make_in(bytes: &[u8], room: usize) {
 }
 
 fn answer_list(bytes: &[u8]) {
-    let mut text = [0u8; 160000];
+    let mut text = [0u8; listing::TEXT_ROOM];
     let n = listing::list(bytes, &mut text);
-    if n <= 160000 {
+    if n <= listing::TEXT_ROOM {
         io::write_all(STDOUT_FILENO, &text[..n]);
     }
 }

@@ -11,12 +11,10 @@ pub use making::make;
 pub use reading::firsts;
 pub use reading::read;
 
-const MOST_RECORDS: usize = 1024;
+pub const MOST_RECORDS: usize = 1024;
 
-// The refusals: output shorter than the result, not of the layout, more than 1,024 records, no such record.
+// The refusals: output shorter than the result, more than 1,024 records, no such record.
 const SHORT: u32 = 13;
-
-const NOT_OF_LAYOUT: u32 = 14;
 
 const TOO_MANY: u32 = 15;
 

@@ -1,10 +1,10 @@
 // Making a day file.
 use crate::MOST_RECORDS;
-use crate::NOT_OF_LAYOUT;
 use crate::SHORT;
 use crate::TOO_MANY;
 use crate::answer::MakeAnswer;
 use key::BodyAnswer;
+use key::NOT_OF_LAYOUT;
 use key::body_length;
 use numbers::put;
 use numbers::put_bytes;

@@ -1,12 +1,12 @@
 // Reading a day file.
 use crate::MOST_RECORDS;
 use crate::NO_RECORD;
-use crate::NOT_OF_LAYOUT;
 use crate::SHORT;
 use crate::TOO_MANY;
 use crate::answer::CountAnswer;
 use crate::answer::ReadAnswer;
 use key::BodyAnswer;
+use key::NOT_OF_LAYOUT;
 use key::body_length;
 use numbers::get;
 ghost use mathlib.Core.Path.{_≡_};

@@ -16,7 +16,8 @@ const BEFORE_PART: u32 = 1;
 
 const LOOP_PART: u32 = 3;
 
-const NOT_OF_LAYOUT: u32 = 14;
+// The refusal of what isn't of the layout.
+pub const NOT_OF_LAYOUT: u32 = 14;
 
 // The bytes of a fault kind with its lanes, of a block, and of the six numbers beside them.
 const FAULT_BYTES: usize = 8;

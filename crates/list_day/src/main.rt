@@ -4,11 +4,11 @@ use libc::STDOUT_FILENO;
 
 // Lists what can be read. One byte more than the largest file is read, so that a longer one shows.
 fn list_from(fd: i32) {
-    let mut file = [0u8; 65537];
+    let mut file = [0u8; listing::MOST_BYTES + 1];
     let n = io::read_full(fd, &mut file);
-    let mut text = [0u8; 160000];
+    let mut text = [0u8; listing::TEXT_ROOM];
     let k = listing::list(&file[..n], &mut text);
-    if k <= 160000 {
+    if k <= listing::TEXT_ROOM {
         io::write_all(STDOUT_FILENO, &text[..k]);
     }
 }

@@ -13,7 +13,10 @@ ghost use Rattle.listing.specs.Decimal.{field, Puts};
 ghost use Rattle.listing.specs.Text.{newline, refusedText, textOf};
 
 // The largest file that is listed.
-const MOST_BYTES: usize = 65536;
+pub const MOST_BYTES: usize = 65536;
+
+// A buffer of this length holds every text.
+pub const TEXT_ROOM: usize = 160000;
 
 // Puts the line of a refused file.
 fn put_refusal(out: &mut [u8], number: u32) -> usize
@@ -31,7 +34,7 @@ pub fn list(file: &[u8], out: &mut [u8]) -> usize
     if MOST_BYTES < file.len() {
         return put_text(out, 0, b"too long\n");
     }
-    let mut firsts = [0u32; 1024];
+    let mut firsts = [0u32; dayfile::MOST_RECORDS];
     match dayfile::firsts(file, &mut firsts) {
         CountAnswer::Count(n) => put_table(out, file, &firsts[..n]),
         CountAnswer::Refused(number, _) => put_refusal(out, number),

@@ -1,7 +1,7 @@
+-- Every part that is taken lies in the cases.
 use native.Mathlib.Omega.{arith}
 use mathlib.Core.Logic.{⊎-elim}
 use borrow.Author.Needs.{needs}
--- Every part that is taken lies in the cases.
 use Prim.Native.Nat.{_-_, _≤_}
 use lib.ListN.{length}
 use Rattle.day_cases.proofs.answer_all.Statement.{statement}

@@ -1,5 +1,5 @@
-use borrow.Author.Needs.{needs}
 -- The sum stays below 2^32.
+use borrow.Author.Needs.{needs}
 use Prim.Native.Nat.{_-_, _≤_, _<_}
 use native.Mathlib.Omega.{arith}
 use lib.ListN.{length}

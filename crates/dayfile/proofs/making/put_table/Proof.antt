@@ -1,5 +1,5 @@
-use borrow.Author.Needs.{needs}
 -- The invariant: the rows that are left, put where the loop stands, give the whole table.
+use borrow.Author.Needs.{needs}
 use mathlib.Core.Path.{_∙_}
 use native.Mathlib.Omega.{arith}
 use Rattle.dayfile.proofs.Filing.{Filling, filling-start, filling-starts, filling-turn, filling-end}

@@ -1,5 +1,5 @@
-use borrow.Author.Needs.{needs}
 -- The invariant: the survey of what is left, from where the loop stands, is the survey of all.
+use borrow.Author.Needs.{needs}
 use mathlib.Core.Path.{_≡_, refl, sym, _∙_}
 use Prim.Native.Nat.{_+_, _≤_, _<_}
 use native.Mathlib.Omega.{arith}

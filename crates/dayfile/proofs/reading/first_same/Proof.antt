@@ -1,5 +1,5 @@
-use borrow.Author.Needs.{needs}
 -- The invariant: the first equal record is not among those passed, so it is the first among the rest.
+use borrow.Author.Needs.{needs}
 use mathlib.Core.Path.{_≡_, sym, _∙_}
 use Prim.Native.Nat.{_+_, _-_, _≤_}
 use native.Mathlib.Omega.{arith}

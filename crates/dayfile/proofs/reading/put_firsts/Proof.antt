@@ -1,5 +1,5 @@
-use borrow.Author.Needs.{needs}
 -- The invariant: the records that are left, put where the loop stands, give the whole list.
+use borrow.Author.Needs.{needs}
 use mathlib.Core.Path.{_≡_, refl, _∙_}
 use Prim.Native.Nat.{_-_, _≤_}
 use native.Mathlib.Omega.{arith}

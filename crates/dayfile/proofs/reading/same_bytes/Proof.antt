@@ -1,5 +1,5 @@
-use borrow.Author.Needs.{needs}
 -- The invariant: what is left of the two parts is the same exactly if the parts are.
+use borrow.Author.Needs.{needs}
 use mathlib.Core.Path.{_≡_, refl, sym, ap, _∙_}
 use Prim.Native.Nat.{ℕ, _+_, _≤_}
 use native.Mathlib.Omega.{arith}

@@ -1,5 +1,5 @@
-use borrow.Author.Needs.{needs}
 -- The invariant: the count so far and that of the rest come to the whole.
+use borrow.Author.Needs.{needs}
 use mathlib.Core.Path.{_≡_}
 use mathlib.Core.Logic.{⊎-elim}
 use Prim.Native.Nat.{_+_, _-_, _≤_}

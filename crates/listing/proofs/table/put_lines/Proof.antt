@@ -1,5 +1,5 @@
-use borrow.Author.Needs.{needs}
 -- The invariant: the lines that are left, put where the loop stands, give all.
+use borrow.Author.Needs.{needs}
 use mathlib.Core.Path.{refl, ap, _∙_}
 use Rattle.key.specs.Layout.{isBody}
 use Rattle.dayfile.proofs.Lists.{count-bodies}
