@@ -87,7 +87,7 @@ module _ {t : ℕ} (z : t ≡ 0) where
   never-has i = rw z (has-zero i)
 
   no-faults : (W : ℕ) (kind : ℕ → ℕ) → kindsOf W t kind ≡ faults 0 0 0 0
-  no-faults W kind = 
+  no-faults W kind =
       faults-same _ _ _ _ 0 0 0 0 (lanes-idle W t kind 1 never-has) (lanes-idle W t kind 2 never-has) (lanes-idle W t kind 3 never-has)
       (lanes-idle W t kind 4 never-has)
 

@@ -118,6 +118,6 @@ form-by (Op.Control o) x W t y a b = unfaulted W t
 pub fault-form : (shape : Shape) (x : Instr) (t : ℕ) (m : Lent) → Form (carriedOf shape x t m .faults)
 unfolding faultsOf
 fault-form shape x t m =
-    carried-by shape x t m (λ (o : Outcome). Form (o .faults)) 
+    carried-by shape x t m (λ (o : Outcome). Form (o .faults))
     (λ e. form-by (x .op) x (shape .width) t (m .memories) (λ i. getD (operandsOf shape x (m .regs) .a) i 0) (λ i. getD (operandsOf shape x (m .regs) .b) i 0))
     no-form

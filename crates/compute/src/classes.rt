@@ -54,7 +54,15 @@ pub fn carry_value(value: [u32; 32], t: Lanes, rd: u8, shape: Shape, regs: &mut 
 }
 
 // An operation on RS1 and RS2.
-pub fn carry_two(op: TwoOp, t: Lanes, rd: u8, rs1: u8, rs2: u8, shape: Shape, regs: &mut [u32]) -> Faults
+pub fn carry_two(
+    op: TwoOp,
+    t: Lanes,
+    rd: u8,
+    rs1: u8,
+    rs2: u8,
+    shape: Shape,
+    regs: &mut [u32],
+) -> Faults
     requires { ⌜ Stands shape (now regs) rd × Stands shape (now regs) rs1 × Stands shape (now regs) rs2 ⌝ }
     ensures { λ r. ⌜ Settled (divisorFaults op shape (now (regs .entry)) rs2 t) (writeLanes shape (now (regs .entry)) rd t (twoLanes op shape (now (regs .entry)) rs1 rs2)) r (now (regs .entry)) (now (regs .exit)) ⌝ }
 {
@@ -64,7 +72,16 @@ pub fn carry_two(op: TwoOp, t: Lanes, rd: u8, rs1: u8, rs2: u8, shape: Shape, re
 }
 
 // A load from one memory.
-fn load_through(space: Space, t: Lanes, rd: u8, rs1: u8, offset: u32, shape: Shape, regs: &mut [u32], memory: &[u32]) -> Faults
+fn load_through(
+    space: Space,
+    t: Lanes,
+    rd: u8,
+    rs1: u8,
+    offset: u32,
+    shape: Shape,
+    regs: &mut [u32],
+    memory: &[u32],
+) -> Faults
     requires { ⌜ Stands shape (now regs) rd × Stands shape (now regs) rs1 ⌝ }
     ensures { λ r. ⌜ Settled (addressFaults space (shape .width) (addressesOf (shape .width) (gatherOf shape (now (regs .entry)) rs1) offset) (length (now (memory .entry))) t) (writeLanes shape (now (regs .entry)) rd t (loadLanes (shape .width) (addressesOf (shape .width) (gatherOf shape (now (regs .entry)) rs1) offset) (now (memory .entry)))) r (now (regs .entry)) (now (regs .exit)) ⌝ }
 {
@@ -76,7 +93,16 @@ fn load_through(space: Space, t: Lanes, rd: u8, rs1: u8, offset: u32, shape: Sha
 }
 
 // A store to one memory.
-fn store_through(space: Space, t: Lanes, rd: u8, rs1: u8, offset: u32, shape: Shape, regs: &[u32], memory: &mut [u32]) -> Faults
+fn store_through(
+    space: Space,
+    t: Lanes,
+    rd: u8,
+    rs1: u8,
+    offset: u32,
+    shape: Shape,
+    regs: &[u32],
+    memory: &mut [u32],
+) -> Faults
     requires { ⌜ Stands shape (now regs) rd × Stands shape (now regs) rs1 ⌝ }
     ensures { λ r. ⌜ Settled (addressFaults space (shape .width) (addressesOf (shape .width) (gatherOf shape (now (regs .entry)) rs1) offset) (length (now (memory .entry))) t) (changesOf (shape .width) (addressesOf (shape .width) (gatherOf shape (now (regs .entry)) rs1) offset) (λ i old. getD (gatherOf shape (now (regs .entry)) rd) i 0) t (now (memory .entry))) r (now (memory .entry)) (now (memory .exit)) ⌝ }
 {
@@ -131,7 +157,17 @@ pub fn carry_store(
 }
 
 // An atomic, on device memory.
-pub fn carry_change(change: Change, t: Lanes, rd: u8, rs1: u8, rs2: u8, rs3: u8, shape: Shape, regs: &mut [u32], device: &mut [u32]) -> Faults
+pub fn carry_change(
+    change: Change,
+    t: Lanes,
+    rd: u8,
+    rs1: u8,
+    rs2: u8,
+    rs3: u8,
+    shape: Shape,
+    regs: &mut [u32],
+    device: &mut [u32],
+) -> Faults
     requires { ⌜ Stands shape (now regs) rd × Stands shape (now regs) rs1 × Stands shape (now regs) rs2 × Stands shape (now regs) rs3 ⌝ }
     ensures regs { λ r. ⌜ Settled (addressFaults Space.Device (shape .width) (gatherOf shape (now (regs .entry)) rs1) (length (now (device .entry))) t) (writeLanes shape (now (regs .entry)) rd t (byLane (shape .width) (oldOf (gatherOf shape (now (regs .entry)) rs1) (changeTo change shape (now (regs .entry)) rs2 rs3) t (now (device .entry))))) r (now (regs .entry)) (now (regs .exit)) ⌝ }
     ensures device { λ r. ⌜ Settled (addressFaults Space.Device (shape .width) (gatherOf shape (now (regs .entry)) rs1) (length (now (device .entry))) t) (changesOf (shape .width) (gatherOf shape (now (regs .entry)) rs1) (changeTo change shape (now (regs .entry)) rs2 rs3) t (now (device .entry))) r (now (device .entry)) (now (device .exit)) ⌝ }

@@ -111,7 +111,7 @@ same-length : tie.Need-same-length
 same-length c = search needs
 
 returns : tie.Need-returns
-returns c = 
+returns c =
     let a = c .before .before .before .before .before .before .before .before .before .before .args in
     arm-two (a .shape) (a .x) (a .t) (a .predicate) (a .regs .now) (a .device .now) (a .local .now) _ (c .before .before .before .before .before .op .given .1) _ _ (c .before .before .carry-two .ensures)
 
@@ -119,7 +119,7 @@ same-length-2 : tie.Need-same-length-2
 same-length-2 c = search needs
 
 returns-2 : tie.Need-returns-2
-returns-2 c = 
+returns-2 c =
     let a = c .before .before .before .before .before .before .before .before .before .before .args in
     arm-compare (a .shape) (a .x) (a .t) (a .predicate) (a .regs .now) (a .device .now) (a .local .now) _ (c .before .before .before .before .before .op2 .given .1) _ _ _ (c .before .before .before .no-faults .ensures) (c .before .compare-results .ensures) (c .predicate-after .ensures)
 
@@ -127,7 +127,7 @@ same-length-3 : tie.Need-same-length-3
 same-length-3 c = search needs
 
 returns-3 : tie.Need-returns-3
-returns-3 c = 
+returns-3 c =
     let a = c .before .before .before .before .before .before .before .before .before .before .before .before .args in
     arm-one (a .shape) (a .x) (a .t) (a .predicate) (a .regs .now) (a .device .now) (a .local .now) _ (c .before .before .before .before .before .before .before .op3 .given .1) _ _ _ (c .before .before .before .before .one-results .ensures) (c .before .before .carry-value .ensures)
 
@@ -135,7 +135,7 @@ same-length-4 : tie.Need-same-length-4
 same-length-4 c = search needs
 
 returns-4 : tie.Need-returns-4
-returns-4 c = 
+returns-4 c =
     let a = c .before .before .before .before .before .before .before .before .before .before .args in
     arm-special (a .shape) (a .x) (a .t) (a .predicate) (a .regs .now) (a .device .now) (a .local .now) (c .before .before .before .before .before .enum-told .given .1) _ _ _ (c .before .before .before .before .special-results .ensures) (c .before .before .carry-value2 .ensures)
 
@@ -143,7 +143,7 @@ same-length-5 : tie.Need-same-length-5
 same-length-5 c = search needs
 
 returns-5 : tie.Need-returns-5
-returns-5 c = 
+returns-5 c =
     let a = c .before .before .before .before .before .before .before .before .before .before .args in
     arm-number (a .shape) (a .x) (a .t) (a .predicate) (a .regs .now) (a .device .now) (a .local .now) (c .before .before .before .before .before .enum-told2 .given .1) _ _ _ (c .before .before .before .before .number-results .ensures) (c .before .before .carry-value3 .ensures)
 
@@ -157,7 +157,7 @@ same-length-8 : tie.Need-same-length-8
 same-length-8 c = search needs
 
 returns-6 : tie.Need-returns-6
-returns-6 c = 
+returns-6 c =
     let a = c .before .before .before .before .before .before .before .before .before .before .before .before .args in
     arm-load (a .shape) (a .x) (a .t) (a .predicate) (a .regs .now) (a .device .now) (a .local .now) _ (c .before .before .before .before .before .before .before .op4 .given .1) (slim (c .before .before .before .before .before .before .before .before .before .before .before .before) _ (c .before .before .before .before .before .before .before .op4 .given .1)) _ _ (c .before .before .carry-load .ensures)
 
@@ -171,7 +171,7 @@ same-length-11 : tie.Need-same-length-11
 same-length-11 c = search needs
 
 returns-7 : tie.Need-returns-7
-returns-7 c = 
+returns-7 c =
     let a = c .before .before .before .before .before .before .before .before .before .before .before .before .before .before .args in
     arm-store (a .shape) (a .x) (a .t) (a .predicate) (a .regs .now) (a .device .now) (a .local .now) _ (c .before .before .before .before .before .before .before .before .before .op5 .given .1) (slim (c .before .before .before .before .before .before .before .before .before .before .before .before .before .before) _ (c .before .before .before .before .before .before .before .before .before .op5 .given .1)) _ _ _ (c .before .before .before .before .carry-store .ensures)
 
@@ -182,7 +182,7 @@ same-length-13 : tie.Need-same-length-13
 same-length-13 c = search needs
 
 returns-8 : tie.Need-returns-8
-returns-8 c = 
+returns-8 c =
     let a = c .before .before .before .before .before .before .before .before .before .before .before .before .before .args in
     arm-atomic (a .shape) (a .x) (a .t) (a .predicate) (a .regs .now) (a .device .now) (a .local .now) _ (c .before .before .before .before .before .before .before .before .op6 .given .1) _ _ _ (c .before .before .before .before .carry-change .ensures .0) (c .before .before .before .before .carry-change .ensures .1)
 
@@ -193,12 +193,12 @@ same-length-15 : tie.Need-same-length-15
 same-length-15 c = search needs
 
 returns-9 : tie.Need-returns-9
-returns-9 c = 
+returns-9 c =
     let a = c .before .before .before .before .before .before .before .before .before .before .before .before .args in
     arm-swap (a .shape) (a .x) (a .t) (a .predicate) (a .regs .now) (a .device .now) (a .local .now) (c .before .before .before .before .before .before .before .enum-told3 .given .1) _ _ _ (c .before .before .before .before .carry-change2 .ensures .0) (c .before .before .before .before .carry-change2 .ensures .1)
 
 returns-10 : tie.Need-returns-10
-returns-10 c = 
+returns-10 c =
     let a = c .before .before .before .before .before .before .args in
     arm-control (a .shape) (a .x) (a .t) (a .predicate) (a .regs .now) (a .device .now) (a .local .now) _ (c .before .enum-told4 .given .1) _ (c .no-faults2 .ensures)
 

@@ -17,7 +17,7 @@ use Rattle.compute.proofs.memory.change_lanes.Statement.{statement}
 use Rattle.compute.proofs.memory.change_lanes.Tie as tie
 
 abbrev Inv-loop : tie.InvT-loop
-Inv-loop change t rs2 rs3 shape regs memory₀ at out₀ width i₀ memory out i = 
+Inv-loop change t rs2 rs3 shape regs memory₀ at out₀ width i₀ memory out i =
     Filled (shape .width) (oldOf at (changeTo change shape regs rs2 rs3) t memory₀) out i
     × Turned (shape .width) (changeTurn at (changeTo change shape regs rs2 rs3) t) memory₀ memory i
 
@@ -92,7 +92,7 @@ loop-less : tie.Need-loop-less Inv-loop μ-loop
 loop-less c = omega arith
 
 loop-again : tie.Need-loop-again Inv-loop μ-loop
-loop-again c = 
+loop-again c =
     let w = c .before .before in
     let n = w .before .before in
     let o = n .before .before .before in
@@ -113,7 +113,7 @@ loop-again c =
     )
 
 same-length : tie.Need-same-length Inv-loop μ-loop
-same-length c = 
+same-length c =
     let a = c .before .before .before .before .args in
     length-turned (length-change-turn (a .t2) (changeTo (a .change) (a .shape) (a .regs .now) (a .rs2) (a .rs3)) (a .t)) (c .before .loop .inv .1)
 
