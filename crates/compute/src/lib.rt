@@ -57,7 +57,15 @@ pub struct Carried {
 // `x` carried out by the lanes `t`. `predicate` is the set of the predicate that RD names, for comparisons. Control instructions, and
 // instructions out of shape, do nothing: a wave is no wider than the widest, the registers of `x` are below the number of registers,
 // and the buffer has room for the registers of every lane.
-pub fn carry_out(x: Instr, t: Lanes, predicate: Lanes, shape: Shape, regs: &mut [u32], device: &mut [u32], local: &mut [u32]) -> Carried
+pub fn carry_out(
+    x: Instr,
+    t: Lanes,
+    predicate: Lanes,
+    shape: Shape,
+    regs: &mut [u32],
+    device: &mut [u32],
+    local: &mut [u32],
+) -> Carried
     ensures { λ r. ⌜ carried r (now (regs .exit)) (now (device .exit)) (now (local .exit)) ≡ carriedOf shape x t (lent predicate (now (regs .entry)) (now (device .entry)) (now (local .entry))) ⌝ }
 {
     if in_shape(shape, x, regs) {
@@ -78,7 +86,15 @@ fn in_shape(shape: Shape, x: Instr, regs: &[u32]) -> bool
 }
 
 // An instruction in shape, by its class.
-fn carry(x: Instr, t: Lanes, predicate: Lanes, shape: Shape, regs: &mut [u32], device: &mut [u32], local: &mut [u32]) -> Carried
+fn carry(
+    x: Instr,
+    t: Lanes,
+    predicate: Lanes,
+    shape: Shape,
+    regs: &mut [u32],
+    device: &mut [u32],
+    local: &mut [u32],
+) -> Carried
     requires { ⌜ inShape shape x (now regs) ≡ true ⌝ }
     ensures { λ r. ⌜ carried r (now (regs .exit)) (now (device .exit)) (now (local .exit)) ≡ havingRead shape x t (operandsOf shape x (now (regs .entry))) (lent predicate (now (regs .entry)) (now (device .entry)) (now (local .entry))) ⌝ }
 {
@@ -96,7 +112,12 @@ fn carry(x: Instr, t: Lanes, predicate: Lanes, shape: Shape, regs: &mut [u32], d
         },
         Op::Compare(o) => Carried {
             faults: no_faults(),
-            predicate: predicate_after(compare_results(o, shape, regs, rs1, rs2), t, predicate, width),
+            predicate: predicate_after(
+                compare_results(o, shape, regs, rs1, rs2),
+                t,
+                predicate,
+                width,
+            ),
         },
         Op::One(o) => Carried {
             faults: carry_value(one_results(o, shape, regs, rs1), t, rd, shape, regs),

@@ -36,7 +36,10 @@ enum-known-op : tie.Need-enum-known-op
 enum-known-op c = search needs
 
 carry-two-requires : tie.Need-carry-two-requires
-carry-two-requires c κs = let z = c .before .before .before .before .before .before .before in let e = c .before .before .op .given .1 in (rd-stands z _ e refl, rs1-stands z _ e refl, rs2-stands z _ e refl)
+carry-two-requires c κs =
+    let z = c .before .before .before .before .before .before .before in
+    let e = c .before .before .op .given .1 in
+    (rd-stands z _ e refl, rs1-stands z _ e refl, rs2-stands z _ e refl)
 
 enum-known-op-2 : tie.Need-enum-known-op-2
 enum-known-op-2 c = search needs
@@ -45,7 +48,10 @@ no-faults-requires : tie.Need-no-faults-requires
 no-faults-requires c κs = search needs
 
 compare-results-requires : tie.Need-compare-results-requires
-compare-results-requires c κs = let z = c .before .before .before .before .before .before .before .before in let e = c .before .before .before .op2 .given .1 in (rs1-stands z _ e refl, rs2-stands z _ e refl)
+compare-results-requires c κs =
+    let z = c .before .before .before .before .before .before .before .before in
+    let e = c .before .before .before .op2 .given .1 in
+    (rs1-stands z _ e refl, rs2-stands z _ e refl)
 
 predicate-after-requires : tie.Need-predicate-after-requires
 predicate-after-requires c κs = slim (c .before .before .before .before .before .before .before .before .before) _ (c .before .before .before .before .op2 .given .1)
@@ -54,10 +60,16 @@ enum-known-op-3 : tie.Need-enum-known-op-3
 enum-known-op-3 c = search needs
 
 one-results-requires : tie.Need-one-results-requires
-one-results-requires c κs = let z = c .before .before .before .before .before .before .before in let e = c .before .before .op3 .given .1 in rs1-stands z _ e refl
+one-results-requires c κs =
+    let z = c .before .before .before .before .before .before .before in
+    let e = c .before .before .op3 .given .1 in
+    rs1-stands z _ e refl
 
 carry-value-requires : tie.Need-carry-value-requires
-carry-value-requires c κs = let z = c .before .before .before .before .before .before .before .before .before in let e = c .before .before .before .before .op3 .given .1 in rd-stands z _ e refl
+carry-value-requires c κs =
+    let z = c .before .before .before .before .before .before .before .before .before in
+    let e = c .before .before .before .before .op3 .given .1 in
+    rd-stands z _ e refl
 
 enum-told : tie.Need-enum-told
 enum-told c = search needs
@@ -66,7 +78,10 @@ special-results-requires : tie.Need-special-results-requires
 special-results-requires c κs = slim (c .before .before .before .before .before) _ (c .enum-told .given .1)
 
 carry-value-requires-2 : tie.Need-carry-value-requires-2
-carry-value-requires-2 c κs = let z = c .before .before .before .before .before .before .before in let e = c .before .before .enum-told .given .1 in rd-stands z _ e refl
+carry-value-requires-2 c κs =
+    let z = c .before .before .before .before .before .before .before in
+    let e = c .before .before .enum-told .given .1 in
+    rd-stands z _ e refl
 
 enum-told-2 : tie.Need-enum-told-2
 enum-told-2 c = search needs
@@ -75,31 +90,46 @@ number-results-requires : tie.Need-number-results-requires
 number-results-requires c κs = slim (c .before .before .before .before .before) _ (c .enum-told2 .given .1)
 
 carry-value-requires-3 : tie.Need-carry-value-requires-3
-carry-value-requires-3 c κs = let z = c .before .before .before .before .before .before .before in let e = c .before .before .enum-told2 .given .1 in rd-stands z _ e refl
+carry-value-requires-3 c κs =
+    let z = c .before .before .before .before .before .before .before in
+    let e = c .before .before .enum-told2 .given .1 in
+    rd-stands z _ e refl
 
 enum-known-op-4 : tie.Need-enum-known-op-4
 enum-known-op-4 c = search needs
 
 carry-load-requires : tie.Need-carry-load-requires
-carry-load-requires c κs = let z = c .before .before .before .before .before .before .before .before .before in let e = c .before .before .before .before .op4 .given .1 in (rd-stands z _ e refl, rs1-stands z _ e refl)
+carry-load-requires c κs =
+    let z = c .before .before .before .before .before .before .before .before .before in
+    let e = c .before .before .before .before .op4 .given .1 in
+    (rd-stands z _ e refl, rs1-stands z _ e refl)
 
 enum-known-op-5 : tie.Need-enum-known-op-5
 enum-known-op-5 c = search needs
 
 carry-store-requires : tie.Need-carry-store-requires
-carry-store-requires c κs = let z = c .before .before .before .before .before .before .before .before .before in let e = c .before .before .before .before .op5 .given .1 in (rd-stands z _ e refl, rs1-stands z _ e refl)
+carry-store-requires c κs =
+    let z = c .before .before .before .before .before .before .before .before .before in
+    let e = c .before .before .before .before .op5 .given .1 in
+    (rd-stands z _ e refl, rs1-stands z _ e refl)
 
 enum-known-op-6 : tie.Need-enum-known-op-6
 enum-known-op-6 c = search needs
 
 carry-change-requires : tie.Need-carry-change-requires
-carry-change-requires c κs = let z = c .before .before .before .before .before .before .before .before in let e = c .before .before .before .op6 .given .1 in (rd-stands z _ e refl, rs1-stands z _ e refl, rs2-stands z _ e refl, rs2-stands z _ e refl)
+carry-change-requires c κs =
+    let z = c .before .before .before .before .before .before .before .before in
+    let e = c .before .before .before .op6 .given .1 in
+    (rd-stands z _ e refl, rs1-stands z _ e refl, rs2-stands z _ e refl, rs2-stands z _ e refl)
 
 enum-told-3 : tie.Need-enum-told-3
 enum-told-3 c = search needs
 
 carry-change-requires-2 : tie.Need-carry-change-requires-2
-carry-change-requires-2 c κs = let z = c .before .before .before .before .before .before .before in let e = c .before .before .enum-told3 .given .1 in (rd-stands z _ e refl, rs1-stands z _ e refl, rs2-stands z _ e refl, rs3-stands z _ e refl)
+carry-change-requires-2 c κs =
+    let z = c .before .before .before .before .before .before .before in
+    let e = c .before .before .enum-told3 .given .1 in
+    (rd-stands z _ e refl, rs1-stands z _ e refl, rs2-stands z _ e refl, rs3-stands z _ e refl)
 
 enum-told-4 : tie.Need-enum-told-4
 enum-told-4 c = search needs
@@ -111,7 +141,7 @@ same-length : tie.Need-same-length
 same-length c = search needs
 
 returns : tie.Need-returns
-returns c = 
+returns c =
     let a = c .before .before .before .before .before .before .before .before .before .before .args in
     arm-two (a .shape) (a .x) (a .t) (a .predicate) (a .regs .now) (a .device .now) (a .local .now) _ (c .before .before .before .before .before .op .given .1) _ _ (c .before .before .carry-two .ensures)
 
@@ -119,7 +149,7 @@ same-length-2 : tie.Need-same-length-2
 same-length-2 c = search needs
 
 returns-2 : tie.Need-returns-2
-returns-2 c = 
+returns-2 c =
     let a = c .before .before .before .before .before .before .before .before .before .before .args in
     arm-compare (a .shape) (a .x) (a .t) (a .predicate) (a .regs .now) (a .device .now) (a .local .now) _ (c .before .before .before .before .before .op2 .given .1) _ _ _ (c .before .before .before .no-faults .ensures) (c .before .compare-results .ensures) (c .predicate-after .ensures)
 
@@ -127,7 +157,7 @@ same-length-3 : tie.Need-same-length-3
 same-length-3 c = search needs
 
 returns-3 : tie.Need-returns-3
-returns-3 c = 
+returns-3 c =
     let a = c .before .before .before .before .before .before .before .before .before .before .before .before .args in
     arm-one (a .shape) (a .x) (a .t) (a .predicate) (a .regs .now) (a .device .now) (a .local .now) _ (c .before .before .before .before .before .before .before .op3 .given .1) _ _ _ (c .before .before .before .before .one-results .ensures) (c .before .before .carry-value .ensures)
 
@@ -135,7 +165,7 @@ same-length-4 : tie.Need-same-length-4
 same-length-4 c = search needs
 
 returns-4 : tie.Need-returns-4
-returns-4 c = 
+returns-4 c =
     let a = c .before .before .before .before .before .before .before .before .before .before .args in
     arm-special (a .shape) (a .x) (a .t) (a .predicate) (a .regs .now) (a .device .now) (a .local .now) (c .before .before .before .before .before .enum-told .given .1) _ _ _ (c .before .before .before .before .special-results .ensures) (c .before .before .carry-value2 .ensures)
 
@@ -143,7 +173,7 @@ same-length-5 : tie.Need-same-length-5
 same-length-5 c = search needs
 
 returns-5 : tie.Need-returns-5
-returns-5 c = 
+returns-5 c =
     let a = c .before .before .before .before .before .before .before .before .before .before .args in
     arm-number (a .shape) (a .x) (a .t) (a .predicate) (a .regs .now) (a .device .now) (a .local .now) (c .before .before .before .before .before .enum-told2 .given .1) _ _ _ (c .before .before .before .before .number-results .ensures) (c .before .before .carry-value3 .ensures)
 
@@ -157,7 +187,7 @@ same-length-8 : tie.Need-same-length-8
 same-length-8 c = search needs
 
 returns-6 : tie.Need-returns-6
-returns-6 c = 
+returns-6 c =
     let a = c .before .before .before .before .before .before .before .before .before .before .before .before .args in
     arm-load (a .shape) (a .x) (a .t) (a .predicate) (a .regs .now) (a .device .now) (a .local .now) _ (c .before .before .before .before .before .before .before .op4 .given .1) (slim (c .before .before .before .before .before .before .before .before .before .before .before .before) _ (c .before .before .before .before .before .before .before .op4 .given .1)) _ _ (c .before .before .carry-load .ensures)
 
@@ -171,7 +201,7 @@ same-length-11 : tie.Need-same-length-11
 same-length-11 c = search needs
 
 returns-7 : tie.Need-returns-7
-returns-7 c = 
+returns-7 c =
     let a = c .before .before .before .before .before .before .before .before .before .before .before .before .before .before .args in
     arm-store (a .shape) (a .x) (a .t) (a .predicate) (a .regs .now) (a .device .now) (a .local .now) _ (c .before .before .before .before .before .before .before .before .before .op5 .given .1) (slim (c .before .before .before .before .before .before .before .before .before .before .before .before .before .before) _ (c .before .before .before .before .before .before .before .before .before .op5 .given .1)) _ _ _ (c .before .before .before .before .carry-store .ensures)
 
@@ -182,9 +212,9 @@ same-length-13 : tie.Need-same-length-13
 same-length-13 c = search needs
 
 returns-8 : tie.Need-returns-8
-returns-8 c = 
+returns-8 c =
     let a = c .before .before .before .before .before .before .before .before .before .before .before .before .before .args in
-    arm-atomic (a .shape) (a .x) (a .t) (a .predicate) (a .regs .now) (a .device .now) (a .local .now) _ (c .before .before .before .before .before .before .before .before .op6 .given .1) _ _ _ (c .before .before .before .before .carry-change .ensures .0) (c .before .before .before .before .carry-change .ensures .1)
+    arm-atomic (a .shape) (a .x) (a .t) (a .predicate) (a .regs .now) (a .device .now) (a .local .now) _ (c .before .before .before .before .before .before .before .before .op6 .given .1) _ _ _ (c .before .before .before .before .carry-change .ensures)
 
 same-length-14 : tie.Need-same-length-14
 same-length-14 c = search needs
@@ -193,12 +223,12 @@ same-length-15 : tie.Need-same-length-15
 same-length-15 c = search needs
 
 returns-9 : tie.Need-returns-9
-returns-9 c = 
+returns-9 c =
     let a = c .before .before .before .before .before .before .before .before .before .before .before .before .args in
-    arm-swap (a .shape) (a .x) (a .t) (a .predicate) (a .regs .now) (a .device .now) (a .local .now) (c .before .before .before .before .before .before .before .enum-told3 .given .1) _ _ _ (c .before .before .before .before .carry-change2 .ensures .0) (c .before .before .before .before .carry-change2 .ensures .1)
+    arm-swap (a .shape) (a .x) (a .t) (a .predicate) (a .regs .now) (a .device .now) (a .local .now) (c .before .before .before .before .before .before .before .enum-told3 .given .1) _ _ _ (c .before .before .before .before .carry-change2 .ensures)
 
 returns-10 : tie.Need-returns-10
-returns-10 c = 
+returns-10 c =
     let a = c .before .before .before .before .before .before .args in
     arm-control (a .shape) (a .x) (a .t) (a .predicate) (a .regs .now) (a .device .now) (a .local .now) _ (c .before .enum-told4 .given .1) _ (c .no-faults2 .ensures)
 

@@ -24,7 +24,7 @@ same-length-3 : tie.Need-same-length-3
 same-length-3 c = search needs
 
 returns : tie.Need-returns
-returns c = 
+returns c =
     let z = c .before .before .before .before .before .before .before .before .before .before in
     let a = z .before .before .before .before .before .before .args in
     c .before .before .before .before .before .before .carry .ensures
@@ -38,7 +38,7 @@ same-length-4 : tie.Need-same-length-4
 same-length-4 c = search needs
 
 returns-2 : tie.Need-returns-2
-returns-2 c = 
+returns-2 c =
     let a = c .before .before .before .before .before .before .before .args in
     let m = lent (a .predicate) (a .regs .now) (a .device .now) (a .local .now) in
     ap (λ (f : Faults). outcome f m) (c .no-faults .ensures)

@@ -3,7 +3,7 @@
 use mathlib.Core.Path.{_≡_, ap, _∙_}
 use mathlib.Core.List.{List}
 use Prim.Native.Nat.{ℕ}
-use lib.ListN.{length, getD}
+use lib.ListN.{length}
 use borrow.Author.Needs.{needs}
 use Rattle.words.specs.declared.instr.Space.{Space}
 use Rattle.compute.specs.Registers.{byLane, gatherOf, writeLanes}
@@ -46,7 +46,7 @@ same-length-2 : tie.Need-same-length-2
 same-length-2 c = search needs
 
 returns : tie.Need-returns
-returns c = 
+returns c =
     let w = c .before .before in
     let v = w .before .before .before .before in
     let i = v .before .before .before in
@@ -67,7 +67,7 @@ same-length-3 : tie.Need-same-length-3
 same-length-3 c = search needs
 
 returns-2 : tie.Need-returns-2
-returns-2 c = 
+returns-2 c =
     let t = c .before in (
       settled-same _ _ _ (faults-are (t .before)) (t .clear .ensures) _ _ (c .if1 .left),
       settled-same _ _ _ (faults-are (t .before)) (t .clear .ensures) _ _ (c .if1 .left),

@@ -23,7 +23,7 @@ same-length : tie.Need-same-length
 same-length c = search needs
 
 returns : tie.Need-returns
-returns c = 
+returns c =
     let w = c .before .before in
     let a = w .before .before .before .before .before .before .before .args in
     rw (w .before .before .enum-told .given .1) (settled-within (λ (l : List ℕ). memories l (a .local .now)) (w .store-through .ensures))
@@ -32,7 +32,7 @@ same-length-2 : tie.Need-same-length-2
 same-length-2 c = search needs
 
 returns-2 : tie.Need-returns-2
-returns-2 c = 
+returns-2 c =
     let w = c .before .before in
     let a = w .before .before .before .before .before .before .before .args in
     rw (w .before .before .enum-told2 .given .1) (settled-within (memories (a .device .now)) (w .store-through2 .ensures))

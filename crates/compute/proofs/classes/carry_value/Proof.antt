@@ -15,7 +15,7 @@ same-length : tie.Need-same-length
 same-length c = search needs
 
 returns : tie.Need-returns
-returns c = 
+returns c =
     let w = c .before .before in
     settled-as (w .write-results .ensures) _ _ (w .before .before .no-faults .ensures) refl
 

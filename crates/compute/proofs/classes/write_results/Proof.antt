@@ -15,7 +15,7 @@ same-length : tie.Need-same-length
 same-length c = search needs
 
 returns : tie.Need-returns
-returns c = 
+returns c =
     let w = c .before .before in
     let z = w .before .before .before in
     settled-changed _ _ _ refl (z .clear .ensures) _ _ _ (w .before .before .if1 .taken) (w .write-lanes .ensures)

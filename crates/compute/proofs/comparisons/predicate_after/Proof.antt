@@ -44,7 +44,7 @@ loop-less : tie.Need-loop-less Inv-loop μ-loop
 loop-less c = omega arith
 
 loop-again : tie.Need-loop-again Inv-loop μ-loop
-loop-again c = 
+loop-again c =
     let h = c .before .before .before in
     marked-more (h .loop .inv) (omega arith) _ _ (c .union .ensures) (c .before .marked .ensures)
 
@@ -56,7 +56,7 @@ union-requires-2 c κs = search needs
 
 returns : tie.Need-returns Inv-loop μ-loop
 unfolding predicateOf
-returns c = 
+returns c =
     c .union2 .ensures ∙ ap₂ bitOr (c .before .without .ensures) (marked-all (c .before .before .before .loop .inv) (omega arith))
 
 pub predicate-after-spec : {M : Type 1} → statement M

@@ -41,7 +41,7 @@ loop-less : tie.Need-loop-less Inv-loop μ-loop
 loop-less c = omega arith
 
 loop-again : tie.Need-loop-again Inv-loop μ-loop
-loop-again c = 
+loop-again c =
     let h = c .before .before .before in
     filled-more (h .loop .inv) (omega arith) _
     (c .chosen2 .ensures ∙ ap (λ (x : ℕ). cond (eqb (h .before .args .special) 0) (h .loop .i) x) (c .before .chosen .ensures))

@@ -1,5 +1,4 @@
 -- `compute::faulting::address_faults` meets its contract, by cases of the memory.
-use mathlib.Core.Path.{_≡_}
 use lib.ListN.{getD}
 use borrow.Author.Needs.{needs}
 use Rattle.compute.proofs.FaultKinds.{device-kinds, local-kinds}
@@ -16,14 +15,14 @@ enum-told-2 : tie.Need-enum-told-2
 enum-told-2 c = search needs
 
 returns : tie.Need-returns
-returns c = 
+returns c =
     let z = c .before .before in
     let a = z .before .args in
     rw (c .enum-told .given .1)
     (device-kinds (a .width) (a .t) (a .words) (λ i. getD (a .at) i 0) _ _ (z .reach .ensures .0) (z .reach .ensures .1))
 
 returns-2 : tie.Need-returns-2
-returns-2 c = 
+returns-2 c =
     let z = c .before .before in
     let a = z .before .args in
     rw (c .enum-told2 .given .1)

@@ -14,7 +14,7 @@ zero-lanes-requires : tie.Need-zero-lanes-requires
 zero-lanes-requires c κs = search needs
 
 returns : tie.Need-returns
-returns c = 
+returns c =
     let z = c .before .before in
     let a = z .before .before .args in
     divisor-kinds (a .shape .width) (a .t) (a .op) (λ i. getD (gatherOf (a .shape) (a .regs .now) (a .rs2)) i 0) _ (c .zero-lanes .ensures)
@@ -24,7 +24,7 @@ no-faults-requires : tie.Need-no-faults-requires
 no-faults-requires c κs = search needs
 
 returns-2 : tie.Need-returns-2
-returns-2 c = 
+returns-2 c =
     let z = c .before .before in
     let a = z .before .before .args in
     c .no-faults .ensures

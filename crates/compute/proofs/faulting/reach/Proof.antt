@@ -12,7 +12,7 @@ use Rattle.compute.proofs.faulting.reach.Statement.{statement}
 use Rattle.compute.proofs.faulting.reach.Tie as tie
 
 abbrev Inv-loop : tie.InvT-loop
-Inv-loop words t width at odd₀ past₀ i₀ odd past i = 
+Inv-loop words t width at odd₀ past₀ i₀ odd past i =
     Marked width (λ j. has t j && isOdd (getD at j 0)) odd i
     × Marked width (λ j. has t j && (not (isOdd (getD at j 0)) && isPast words (getD at j 0))) past i
 
@@ -53,7 +53,7 @@ loop-less : tie.Need-loop-less Inv-loop μ-loop
 loop-less c = omega arith
 
 loop-again : tie.Need-loop-again Inv-loop μ-loop
-loop-again c = 
+loop-again c =
     let u = c .before .before .before in
     let h = u .before .before .before in
     let a = h .before .args in

@@ -15,7 +15,7 @@ use Rattle.compute.proofs.faulting.zero_lanes.Statement.{statement}
 use Rattle.compute.proofs.faulting.zero_lanes.Tie as tie
 
 abbrev Inv-loop : tie.InvT-loop
-Inv-loop t shape regs register width set₀ i₀ set i = 
+Inv-loop t shape regs register width set₀ i₀ set i =
     Marked (shape .width) (λ j. has t j && eqb (getD (gatherOf shape regs register) j 0) 0) set i
 
 abbrev μ-loop : tie.MeasureT-loop
@@ -50,7 +50,7 @@ loop-less : tie.Need-loop-less Inv-loop μ-loop
 loop-less c = omega arith
 
 loop-again : tie.Need-loop-again Inv-loop μ-loop
-loop-again c = 
+loop-again c =
     let z = c .before .before .before in
     let h = z .before .before in
     let a = h .before .before in

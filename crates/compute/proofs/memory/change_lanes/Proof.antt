@@ -1,14 +1,12 @@
 -- `compute::memory::change_lanes` meets its contract: at turn i the lanes below i have had their turns, and what each found stands in
 -- the answer.
-use mathlib.Core.Path.{_≡_, refl, ap, ap₂, _∙_}
-use mathlib.Core.Bool.{cond}
-use mathlib.Core.List.{List}
+use mathlib.Core.Path.{ap₂, _∙_}
 use Prim.Native.Nat.{ℕ, _-_, _<_}
 use native.Mathlib.Omega.{arith}
-use lib.ListN.{length, getD}
+use lib.ListN.{length}
 use borrow.Author.Needs.{needs}
 use Rattle.ground.proofs.Turns.{Turned, turned-none, turned-more, turned-all, length-turned}
-use Rattle.compute.specs.Memory.{wordAt, changeTurn, changesOf, oldOf}
+use Rattle.compute.specs.Memory.{changeTurn, changesOf, oldOf}
 use Rattle.compute.specs.Lanewise.{changeOf, changeTo}
 use Rattle.compute.proofs.Slots.{slot-in}
 use Rattle.compute.proofs.Lanewise.{read-gathered, Filled, filled-none, filled-more, filled-all}
@@ -17,7 +15,7 @@ use Rattle.compute.proofs.memory.change_lanes.Statement.{statement}
 use Rattle.compute.proofs.memory.change_lanes.Tie as tie
 
 abbrev Inv-loop : tie.InvT-loop
-Inv-loop change t rs2 rs3 shape regs memory₀ at out₀ width i₀ memory out i = 
+Inv-loop change t rs2 rs3 shape regs memory₀ at out₀ width i₀ memory out i =
     Filled (shape .width) (oldOf at (changeTo change shape regs rs2 rs3) t memory₀) out i
     × Turned (shape .width) (changeTurn at (changeTo change shape regs rs2 rs3) t) memory₀ memory i
 
@@ -92,7 +90,7 @@ loop-less : tie.Need-loop-less Inv-loop μ-loop
 loop-less c = omega arith
 
 loop-again : tie.Need-loop-again Inv-loop μ-loop
-loop-again c = 
+loop-again c =
     let w = c .before .before in
     let n = w .before .before in
     let o = n .before .before .before in
@@ -113,7 +111,7 @@ loop-again c =
     )
 
 same-length : tie.Need-same-length Inv-loop μ-loop
-same-length c = 
+same-length c =
     let a = c .before .before .before .before .args in
     length-turned (length-change-turn (a .t2) (changeTo (a .change) (a .shape) (a .regs .now) (a .rs2) (a .rs3)) (a .t)) (c .before .loop .inv .1)
 

@@ -1,5 +1,5 @@
 -- `compute::memory::store_lanes` meets its contract: at turn i the lanes below i have stored.
-use mathlib.Core.Path.{_≡_, refl, _∙_}
+use mathlib.Core.Path.{refl}
 use mathlib.Core.List.{List}
 use Prim.Native.Nat.{ℕ, _-_, _<_}
 use native.Mathlib.Omega.{arith}
@@ -63,7 +63,7 @@ loop-less : tie.Need-loop-less Inv-loop μ-loop
 loop-less c = omega arith
 
 loop-again : tie.Need-loop-again Inv-loop μ-loop
-loop-again c = 
+loop-again c =
     let w = c .before .before in
     let z = w .before .before .before .before in
     let h = z .before .before .loop in
@@ -73,7 +73,7 @@ loop-again c =
     (read-gathered (z .before .before .before .before .before .pre) _ _ (z .slot .ensures) (omega arith)) (w .word-left .ensures))
 
 same-length : tie.Need-same-length Inv-loop μ-loop
-same-length c = 
+same-length c =
     let a = c .before .before .before .before .args in
     length-turned (length-change-turn (a .t1) (value (a .shape) (a .regs .now) (a .rd)) (a .t)) (c .before .loop .inv)
 
