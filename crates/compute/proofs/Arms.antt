@@ -1,6 +1,5 @@
 -- An instruction by the class of its operation: the one definition of what it does, as each of the code's arms does it.
-use mathlib.Core.Path.{_≡_, refl, sym, ap, ap₂, _∙_}
-use mathlib.Core.Bool.{Bool, true, false, cond}
+use mathlib.Core.Path.{_≡_, refl, ap, ap₂, _∙_}
 use mathlib.Core.List.{List}
 use Prim.Native.Nat.{ℕ, _≤_, _<_}
 use lib.ListN.{length, getD}
@@ -18,13 +17,13 @@ use Rattle.compute.specs.declared.Shape.{Shape}
 use Rattle.compute.specs.declared.Faults.{Faults}
 use Rattle.compute.specs.declared.memory.Change.{Change}
 use Rattle.compute.specs.Registers.{byLane, gatherOf, writeLanes}
-use Rattle.compute.specs.Memory.{Memories, memories, memoryOf, addressesOf, wordOf, changesOf, oldOf}
+use Rattle.compute.specs.Memory.{Memories, memories, memoryOf, wordOf, changesOf, oldOf}
 use Rattle.compute.specs.Operands.{Lent, lent, operandsOf}
 use Rattle.compute.specs.Values.{specialOf, resultsOf, predicateOf, changed}
-use Rattle.compute.specs.Faulting.{faults, clear, kindsOf, addressFault}
+use Rattle.compute.specs.Faulting.{faults, kindsOf, addressFault}
 use Rattle.compute.specs.Carrying.{Outcome, outcome, faultsOf, afterOf, unlessFault, havingRead}
 use Rattle.compute.specs.Lanewise.{twoLanes, compareLanes, oneLanes, loadLanes, changeTo}
-use Rattle.compute.specs.Classes.{Settled, addressFaults, divisorFaults}
+use Rattle.compute.specs.Classes.{Settled, addressFaults, divisorFaults, Writes, Computes, reached, Loads, storesOf, StoresIn, Changes}
 use Rattle.compute.proofs.Lanewise.{getD-by-lane, by-lane-same}
 use Rattle.compute.proofs.FaultKinds.{kinds-same, no-kinds}
 use Rattle.compute.proofs.Settling.{settled-as, settled-within, settled-both}
@@ -51,7 +50,7 @@ module _ (shape : Shape) (x : Instr) (t p : ℕ) (regs device local : List ℕ) 
   write results = writeLanes shape regs (x .rd) t results
 
   abbrev at : List ℕ
-  at = addressesOf W (gatherOf shape regs (x .rs1)) (x .number)
+  at = reached shape regs (x .rs1) (x .number)
 
   abbrev done : Outcome
   done = havingRead shape x t (operandsOf shape x regs) before
@@ -103,11 +102,11 @@ module _ (shape : Shape) (x : Instr) (t p : ℕ) (regs device local : List ℕ) 
 
   as-store : (s : Space) → x .op ≡ Op.Store s → W ≤ widest
       → unlessFault (addressFaults s W at (length (memoryOf s both)) t) before
-      (left regs (changed s (changesOf W at (λ i old. getD (gatherOf shape regs (x .rd)) i 0) t) both)) ≡ done
+      (left regs (changed s (storesOf shape t (x .rd) (x .rs1) (x .number) regs) both)) ≡ done
   unfolding faultsOf afterOf resultsOf
   as-store s e n =
       rw e
-      (ap (λ (f : Faults). unlessFault f before (left regs (changed s (changesOf W at (λ i old. getD (gatherOf shape regs (x .rd)) i 0) t) both)))
+      (ap (λ (f : Faults). unlessFault f before (left regs (changed s (storesOf shape t (x .rd) (x .rs1) (x .number) regs) both)))
       (kinds-same W t _ _ (λ i b. ap (addressFault s (length (memoryOf s both))) (address-is n i b))))
 
   -- an atomic: its addresses, and what it leaves
@@ -131,7 +130,7 @@ module _ (shape : Shape) (x : Instr) (t p : ℕ) (regs device local : List ℕ) 
   -- ---- so an arm that settled what it was lent has done what the one definition says
 
   pub arm-two : (o : TwoOp) → x .op ≡ Op.Two o → (r : Faults) (after : List ℕ)
-      → Settled (divisorFaults o shape regs (x .rs2) t) (write (twoLanes o shape regs (x .rs1) (x .rs2))) r regs after
+      → Computes o shape t (x .rd) (x .rs1) (x .rs2) r regs after
       → outcome r (lent p after device local) ≡ done
   arm-two o e r after h = settled-outcome (settled-within (λ (l : List ℕ). left l both) h) ∙ as-two o e
 
@@ -141,56 +140,48 @@ module _ (shape : Shape) (x : Instr) (t p : ℕ) (regs device local : List ℕ) 
       ap₂ (λ (f : Faults) (q : ℕ). outcome f (lent q regs device local)) f (h ∙ ap (predicateOf W p t) v) ∙ as-compare o e
 
   -- results that no fault stops
-  value-left : (r : Faults) (value results after : List ℕ) → Settled (faults 0 0 0 0) (write value) r regs after → value ≡ results
+  value-left : (r : Faults) (value results after : List ℕ) → Writes shape t (x .rd) value r regs after → value ≡ results
       → outcome r (lent p after device local) ≡ outcome (faults 0 0 0 0) (left (write results) both)
   value-left r value results after h e =
       settled-outcome (settled-within (λ (l : List ℕ). left l both) (settled-as h (faults 0 0 0 0) (write results) refl (ap write e)))
 
   pub arm-one : (o : OneOp) → x .op ≡ Op.One o → (r : Faults) (value after : List ℕ) → value ≡ oneLanes o shape regs (x .rs1)
-      → Settled (faults 0 0 0 0) (write value) r regs after → outcome r (lent p after device local) ≡ done
+      → Writes shape t (x .rd) value r regs after → outcome r (lent p after device local) ≡ done
   arm-one o e r value after v h = value-left r value _ after h v ∙ as-one o e
 
   pub arm-special : x .op ≡ Op.Special → (r : Faults) (value after : List ℕ) → value ≡ byLane W (specialOf (x .rs1))
-      → Settled (faults 0 0 0 0) (write value) r regs after → outcome r (lent p after device local) ≡ done
+      → Writes shape t (x .rd) value r regs after → outcome r (lent p after device local) ≡ done
   arm-special e r value after v h = value-left r value _ after h v ∙ as-special e
 
   pub arm-number : x .op ≡ Op.Number → (r : Faults) (value after : List ℕ) → value ≡ byLane W (λ i. x .number)
-      → Settled (faults 0 0 0 0) (write value) r regs after → outcome r (lent p after device local) ≡ done
+      → Writes shape t (x .rd) value r regs after → outcome r (lent p after device local) ≡ done
   arm-number e r value after v h = value-left r value _ after h v ∙ as-number e
 
   pub arm-load : (s : Space) → x .op ≡ Op.Load s → W ≤ widest → (r : Faults) (after : List ℕ)
-      → Settled (addressFaults s W at (length (memoryOf s both)) t) (write (loadLanes W at (memoryOf s both))) r regs after
+      → Loads s shape t (x .rd) (x .rs1) (x .number) (memoryOf s both) r regs after
       → outcome r (lent p after device local) ≡ done
   arm-load s e n r after h = settled-outcome (settled-within (λ (l : List ℕ). left l both) h) ∙ as-load s e n
 
   pub arm-store : (s : Space) → x .op ≡ Op.Store s → W ≤ widest → (r : Faults) (device′ local′ : List ℕ)
-      → Settled (addressFaults s W at (length (memoryOf s both)) t)
-      (changed s (changesOf W at (λ i old. getD (gatherOf shape regs (x .rd)) i 0) t) both) r both (memories device′ local′)
+      → StoresIn s shape t (x .rd) (x .rs1) (x .number) regs r both (memories device′ local′)
       → outcome r (lent p regs device′ local′) ≡ done
   arm-store s e n r device′ local′ h = settled-outcome (settled-within (left regs) h) ∙ as-store s e n
 
   -- both parts of what an atomic was lent
-  changes-left : (f : ℕ → ℕ → ℕ) (r : Faults) (after device′ : List ℕ)
-      → Settled (addressFaults Space.Device W bases (length device) t) (write (byLane W (oldOf bases f t device))) r regs after
-      → Settled (addressFaults Space.Device W bases (length device) t) (changesOf W bases f t device) r device device′
-      → outcome r (lent p after device′ local) ≡ unlessFault (addressFaults Space.Device W bases (length device) t) before (changes f)
-  changes-left f r after device′ h k = settled-outcome (settled-both (λ (l d : List ℕ). left l (memories d local)) h k)
+  changes-left : (change : Change) (b c : ℕ) (r : Faults) (after device′ : List ℕ)
+      → Changes change shape t (x .rd) (x .rs1) b c r regs after device device′
+      → outcome r (lent p after device′ local) ≡ unlessFault (addressFaults Space.Device W bases (length device) t) before (changes (changeTo change shape regs b c))
+  changes-left change b c r after device′ h = settled-outcome (settled-both (λ (l d : List ℕ). left l (memories d local)) (h .0) (h .1))
 
   pub arm-atomic : (o : AtomicOp) → x .op ≡ Op.Atomic o → (r : Faults) (after device′ : List ℕ)
-      → Settled (addressFaults Space.Device W bases (length device) t)
-      (write (byLane W (oldOf bases (changeTo (Change.Atomic o) shape regs (x .rs2) (x .rs2)) t device))) r regs after
-      → Settled (addressFaults Space.Device W bases (length device) t)
-      (changesOf W bases (changeTo (Change.Atomic o) shape regs (x .rs2) (x .rs2)) t device) r device device′
+      → Changes (Change.Atomic o) shape t (x .rd) (x .rs1) (x .rs2) (x .rs2) r regs after device device′
       → outcome r (lent p after device′ local) ≡ done
-  arm-atomic o e r after device′ h k = changes-left _ r after device′ h k ∙ as-atomic o e
+  arm-atomic o e r after device′ h = changes-left (Change.Atomic o) (x .rs2) (x .rs2) r after device′ h ∙ as-atomic o e
 
   pub arm-swap : x .op ≡ Op.Cas → (r : Faults) (after device′ : List ℕ)
-      → Settled (addressFaults Space.Device W bases (length device) t)
-      (write (byLane W (oldOf bases (changeTo Change.Swap shape regs (x .rs2) (x .rs3)) t device))) r regs after
-      → Settled (addressFaults Space.Device W bases (length device) t)
-      (changesOf W bases (changeTo Change.Swap shape regs (x .rs2) (x .rs3)) t device) r device device′
+      → Changes Change.Swap shape t (x .rd) (x .rs1) (x .rs2) (x .rs3) r regs after device device′
       → outcome r (lent p after device′ local) ≡ done
-  arm-swap e r after device′ h k = changes-left _ r after device′ h k ∙ as-swap e
+  arm-swap e r after device′ h = changes-left Change.Swap (x .rs2) (x .rs3) r after device′ h ∙ as-swap e
 
   pub arm-control : (o : ControlOp) → x .op ≡ Op.Control o → (r : Faults) → r ≡ faults 0 0 0 0 → outcome r before ≡ done
   arm-control o e r f = ap (λ (f : Faults). outcome f before) f ∙ as-control o e

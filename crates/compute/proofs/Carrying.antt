@@ -1,18 +1,15 @@
 -- What carrying out one instruction keeps: the laws that a run asks for. `carried-by` takes an outcome apart by the two tests, the
 -- shape and the faults; `regs-by` and `memories-by` take the operations by where their results go.
 use mathlib.Core.Path.{_≡_, refl, sym, ap, ap₂, _∙_}
-use mathlib.Core.Bool.{Bool, true, false, not, _&&_, _||_, cond, and-true, and-false, or-false}
+use mathlib.Core.Bool.{true, false, not, _&&_, _||_, and-true, and-false, or-false}
 use mathlib.Core.List.{List}
 use Prim.Native.Nat.{ℕ, _<_}
-use lib.Bits.{bitOr}
 use lib.Dec.{eqb, ltb}
 use lib.ListN.{length, getD}
-use Rattle.ground.proofs.Bools.{never}
 use Rattle.ground.proofs.Choices.{cond-by}
 use Rattle.ground.proofs.Turns.{inOrder-idle}
 use Rattle.lanes.specs.Sets.{has, without, setOf}
 use Rattle.lanes.proofs.Members.{has-or, has-without, has-zero, has-set-of, has-ext}
-use Rattle.lanes.proofs.Picking.{set-of-none}
 use Rattle.words.specs.declared.instr.Space.{Space}
 use Rattle.words.specs.declared.instr.ControlOp.{ControlOp}
 use Rattle.words.specs.declared.instr.Op.{Op}
@@ -22,7 +19,7 @@ use Rattle.compute.specs.declared.Shape.{Shape}
 use Rattle.compute.specs.declared.Faults.{Faults}
 use Rattle.compute.specs.Registers.{slotIn, writeLanes}
 use Rattle.compute.specs.Memory.{Memories, memories, memoryOf, changesOf}
-use Rattle.compute.specs.Operands.{Lent, lent, Operands, operandsOf}
+use Rattle.compute.specs.Operands.{Lent, Operands, operandsOf}
 use Rattle.compute.specs.Values.{resultsOf, targetBy, regsBy, predicateOf, predicateBy, changed, memoriesBy}
 use Rattle.compute.specs.Faulting.{faults, kindsOf, clear}
 use Rattle.compute.specs.Carrying.{Outcome, outcome, inShape, faultsOf, afterOf, unlessFault, havingRead, carriedOf}

@@ -1,5 +1,5 @@
 -- A lane's turn at a memory, as the code takes it: a lane that does not execute finds 0 and leaves the memory as it is.
-use mathlib.Core.Path.{_≡_, refl, sym, ap, _∙_}
+use mathlib.Core.Path.{_≡_, refl, ap, _∙_}
 use mathlib.Core.Bool.{Bool, true, false, cond}
 use mathlib.Core.List.{List}
 use Prim.Native.Nat.{ℕ}

@@ -1,5 +1,5 @@
 -- The lanes of each kind, of the tests that the code makes: a lane's kind is one number, so that a test of each kind tells the lanes.
-use mathlib.Core.Path.{_≡_, refl, sym, ap, ap₂, _∙_}
+use mathlib.Core.Path.{_≡_, refl, sym, ap, _∙_}
 use mathlib.Core.Bool.{Bool, true, false, not, _&&_, cond, and-false}
 use Prim.Native.Nat.{ℕ, _<_}
 use lib.Dec.{eqb, ltb}
@@ -10,7 +10,6 @@ use Rattle.lanes.proofs.Picking.{set-of-none}
 use Rattle.words.specs.declared.instr.TwoOp.{TwoOp}
 use Rattle.words.specs.declared.instr.Space.{Space}
 use Rattle.arith.specs.Arith.{divides}
-use Rattle.compute.specs.declared.Faults.{Faults}
 use Rattle.compute.specs.Faulting.{isOdd, isPast, pastKind, addressFault, divisorFault, faultLanes, faults, kindsOf}
 
 -- the lanes of a kind, by a test

@@ -1,7 +1,6 @@
 -- The lanes of a fault: they execute, they are lanes of the wave, no lane is of two kinds; and which kinds come together.
-use mathlib.Core.Path.{_≡_, refl, sym, ap, _∙_}
-use mathlib.Core.Bool.{Bool, true, false, _&&_, and-false}
-use mathlib.Core.List.{List}
+use mathlib.Core.Path.{_≡_, refl, sym, _∙_}
+use mathlib.Core.Bool.{Bool, true, false, _&&_}
 use Prim.Native.Nat.{ℕ, _<_}
 use native.Mathlib.Omega.{arith}
 use lib.Bits.{bitAnd}
@@ -18,7 +17,7 @@ use Rattle.arith.specs.Arith.{addressOf}
 use Rattle.compute.specs.declared.Shape.{Shape}
 use Rattle.compute.specs.declared.Faults.{Faults}
 use Rattle.compute.specs.Memory.{Memories, memoryOf}
-use Rattle.compute.specs.Operands.{Lent, Operands, operandsOf}
+use Rattle.compute.specs.Operands.{Lent, operandsOf}
 use Rattle.compute.specs.Faulting.{faultLanes, faults, kindsOf, addressFault, faultBy}
 use Rattle.compute.specs.Carrying.{Outcome, faultsOf, carriedOf}
 use Rattle.compute.proofs.FaultKinds.{has-fault, no-kinds, device-form, local-form, divisor-form}

@@ -1,5 +1,5 @@
 -- Any two results that the promise of `carry_out` allows are equal, and so are the buffers afterwards.
-use mathlib.Core.Path.{_≡_, refl, sym, ap, ap₂, _∙_}
+use mathlib.Core.Path.{_≡_, sym, ap, _∙_}
 use mathlib.Core.List.{List}
 use Prim.Native.Nat.{ℕ}
 use Rattle.compute.specs.declared.Faults.{Faults}

@@ -7,7 +7,6 @@ use Rattle.ground.specs.Lists.{inOrder}
 use Rattle.lanes.specs.Sets.{has}
 use Rattle.words.specs.declared.instr.Space.{Space}
 use Rattle.arith.specs.Arith.{addressOf}
-use Rattle.compute.specs.declared.Shape.{Shape}
 use Rattle.compute.specs.Registers.{byLane}
 
 pub record Memories : Type 0 where

@@ -1,12 +1,7 @@
 // One class of instructions each, whole: the results of every lane, then the writing, unless a lane faults.
-ghost use mathlib.Core.Path.{_≡_};
-ghost use lib.ListN.{getD, length};
-ghost use Rattle.compute.specs.Registers.{Stands, byLane, gatherOf, writeLanes};
-ghost use Rattle.compute.specs.Memory.{memories, memoryOf, addressesOf, changesOf, oldOf};
-ghost use Rattle.compute.specs.Values.{changed};
-ghost use Rattle.compute.specs.Faulting.{faults};
-ghost use Rattle.compute.specs.Lanewise.{twoLanes, loadLanes, changeTo};
-ghost use Rattle.compute.specs.Classes.{Settled, addressFaults, divisorFaults};
+ghost use Rattle.compute.specs.Registers.{Stands, writeLanes};
+ghost use Rattle.compute.specs.Memory.{memories, memoryOf};
+ghost use Rattle.compute.specs.Classes.{Settled, Writes, Computes, Loads, Stores, StoresIn, Changes};
 use crate::Faults;
 use crate::Shape;
 use crate::faulting::address_faults;
@@ -44,17 +39,23 @@ fn write_results(results: Results, t: Lanes, rd: u8, shape: Shape, regs: &mut [u
     faults
 }
 
-// Results that no lane's fault stops.
-pub fn carry_value(value: [u32; 32], t: Lanes, rd: u8, shape: Shape, regs: &mut [u32]) -> Faults
+// Results that no fault stops.
+pub(crate) fn carry_value(
+    value: [u32; 32],
+    t: Lanes,
+    rd: u8,
+    shape: Shape,
+    regs: &mut [u32],
+) -> Faults
     requires { ⌜ Stands shape (now regs) rd ⌝ }
-    ensures { λ r. ⌜ Settled (faults 0 0 0 0) (writeLanes shape (now (regs .entry)) rd t value) r (now (regs .entry)) (now (regs .exit)) ⌝ }
+    ensures { λ r. ⌜ Writes shape t rd value r (now (regs .entry)) (now (regs .exit)) ⌝ }
 {
     let faults = no_faults();
     write_results(Results { value, faults }, t, rd, shape, regs)
 }
 
-// An operation on RS1 and RS2.
-pub fn carry_two(
+// An operation on RS1 and RS2: every result and the lanes that divide by zero, then the writing.
+pub(crate) fn carry_two(
     op: TwoOp,
     t: Lanes,
     rd: u8,
@@ -64,7 +65,7 @@ pub fn carry_two(
     regs: &mut [u32],
 ) -> Faults
     requires { ⌜ Stands shape (now regs) rd × Stands shape (now regs) rs1 × Stands shape (now regs) rs2 ⌝ }
-    ensures { λ r. ⌜ Settled (divisorFaults op shape (now (regs .entry)) rs2 t) (writeLanes shape (now (regs .entry)) rd t (twoLanes op shape (now (regs .entry)) rs1 rs2)) r (now (regs .entry)) (now (regs .exit)) ⌝ }
+    ensures { λ r. ⌜ Computes op shape t rd rs1 rs2 r (now (regs .entry)) (now (regs .exit)) ⌝ }
 {
     let faults = divisor_faults(op, t, shape, regs, rs2);
     let value = two_results(op, shape, regs, rs1, rs2);
@@ -83,7 +84,7 @@ fn load_through(
     memory: &[u32],
 ) -> Faults
     requires { ⌜ Stands shape (now regs) rd × Stands shape (now regs) rs1 ⌝ }
-    ensures { λ r. ⌜ Settled (addressFaults space (shape .width) (addressesOf (shape .width) (gatherOf shape (now (regs .entry)) rs1) offset) (length (now (memory .entry))) t) (writeLanes shape (now (regs .entry)) rd t (loadLanes (shape .width) (addressesOf (shape .width) (gatherOf shape (now (regs .entry)) rs1) offset) (now (memory .entry)))) r (now (regs .entry)) (now (regs .exit)) ⌝ }
+    ensures { λ r. ⌜ Loads space shape t rd rs1 offset (now (memory .entry)) r (now (regs .entry)) (now (regs .exit)) ⌝ }
 {
     let width = shape.width;
     let at = addresses(shape, regs, rs1, offset);
@@ -104,7 +105,7 @@ fn store_through(
     memory: &mut [u32],
 ) -> Faults
     requires { ⌜ Stands shape (now regs) rd × Stands shape (now regs) rs1 ⌝ }
-    ensures { λ r. ⌜ Settled (addressFaults space (shape .width) (addressesOf (shape .width) (gatherOf shape (now (regs .entry)) rs1) offset) (length (now (memory .entry))) t) (changesOf (shape .width) (addressesOf (shape .width) (gatherOf shape (now (regs .entry)) rs1) offset) (λ i old. getD (gatherOf shape (now (regs .entry)) rd) i 0) t (now (memory .entry))) r (now (memory .entry)) (now (memory .exit)) ⌝ }
+    ensures { λ r. ⌜ Stores space shape t rd rs1 offset (now (regs .entry)) r (now (memory .entry)) (now (memory .exit)) ⌝ }
 {
     let at = addresses(shape, regs, rs1, offset);
     let faults = address_faults(space, at, memory.len(), t, shape.width);
@@ -115,7 +116,7 @@ fn store_through(
 }
 
 // A load.
-pub fn carry_load(
+pub(crate) fn carry_load(
     space: Space,
     t: Lanes,
     rd: u8,
@@ -127,7 +128,7 @@ pub fn carry_load(
     local: &[u32],
 ) -> Faults
     requires { ⌜ Stands shape (now regs) rd × Stands shape (now regs) rs1 ⌝ }
-    ensures { λ r. ⌜ Settled (addressFaults space (shape .width) (addressesOf (shape .width) (gatherOf shape (now (regs .entry)) rs1) offset) (length (memoryOf space (memories (now (device .entry)) (now (local .entry))))) t) (writeLanes shape (now (regs .entry)) rd t (loadLanes (shape .width) (addressesOf (shape .width) (gatherOf shape (now (regs .entry)) rs1) offset) (memoryOf space (memories (now (device .entry)) (now (local .entry)))))) r (now (regs .entry)) (now (regs .exit)) ⌝ }
+    ensures { λ r. ⌜ Loads space shape t rd rs1 offset (memoryOf space (memories (now (device .entry)) (now (local .entry)))) r (now (regs .entry)) (now (regs .exit)) ⌝ }
 {
     match space {
         Space::Device => load_through(Space::Device, t, rd, rs1, offset, shape, regs, device),
@@ -136,7 +137,7 @@ pub fn carry_load(
 }
 
 // A store.
-pub fn carry_store(
+pub(crate) fn carry_store(
     space: Space,
     t: Lanes,
     rd: u8,
@@ -148,7 +149,7 @@ pub fn carry_store(
     local: &mut [u32],
 ) -> Faults
     requires { ⌜ Stands shape (now regs) rd × Stands shape (now regs) rs1 ⌝ }
-    ensures { λ r. ⌜ Settled (addressFaults space (shape .width) (addressesOf (shape .width) (gatherOf shape (now (regs .entry)) rs1) offset) (length (memoryOf space (memories (now (device .entry)) (now (local .entry))))) t) (changed space (changesOf (shape .width) (addressesOf (shape .width) (gatherOf shape (now (regs .entry)) rs1) offset) (λ i old. getD (gatherOf shape (now (regs .entry)) rd) i 0) t) (memories (now (device .entry)) (now (local .entry)))) r (memories (now (device .entry)) (now (local .entry))) (memories (now (device .exit)) (now (local .exit))) ⌝ }
+    ensures { λ r. ⌜ StoresIn space shape t rd rs1 offset (now (regs .entry)) r (memories (now (device .entry)) (now (local .entry))) (memories (now (device .exit)) (now (local .exit))) ⌝ }
 {
     match space {
         Space::Device => store_through(Space::Device, t, rd, rs1, offset, shape, regs, device),
@@ -157,7 +158,7 @@ pub fn carry_store(
 }
 
 // An atomic, on device memory.
-pub fn carry_change(
+pub(crate) fn carry_change(
     change: Change,
     t: Lanes,
     rd: u8,
@@ -169,8 +170,7 @@ pub fn carry_change(
     device: &mut [u32],
 ) -> Faults
     requires { ⌜ Stands shape (now regs) rd × Stands shape (now regs) rs1 × Stands shape (now regs) rs2 × Stands shape (now regs) rs3 ⌝ }
-    ensures regs { λ r. ⌜ Settled (addressFaults Space.Device (shape .width) (gatherOf shape (now (regs .entry)) rs1) (length (now (device .entry))) t) (writeLanes shape (now (regs .entry)) rd t (byLane (shape .width) (oldOf (gatherOf shape (now (regs .entry)) rs1) (changeTo change shape (now (regs .entry)) rs2 rs3) t (now (device .entry))))) r (now (regs .entry)) (now (regs .exit)) ⌝ }
-    ensures device { λ r. ⌜ Settled (addressFaults Space.Device (shape .width) (gatherOf shape (now (regs .entry)) rs1) (length (now (device .entry))) t) (changesOf (shape .width) (gatherOf shape (now (regs .entry)) rs1) (changeTo change shape (now (regs .entry)) rs2 rs3) t (now (device .entry))) r (now (device .entry)) (now (device .exit)) ⌝ }
+    ensures { λ r. ⌜ Changes change shape t rd rs1 rs2 rs3 r (now (regs .entry)) (now (regs .exit)) (now (device .entry)) (now (device .exit)) ⌝ }
 {
     let at = gather(shape, regs, rs1);
     let faults = address_faults(Space::Device, at, device.len(), t, shape.width);

@@ -58,7 +58,13 @@ fn ge_lanes(shape: Shape, regs: &[u32], rs1: u8, rs2: u8) -> [u32; 32]
 }
 
 // Whether `op` holds of every lane's RS1 and RS2.
-pub fn compare_results(op: CompareOp, shape: Shape, regs: &[u32], rs1: u8, rs2: u8) -> [u32; 32]
+pub(crate) fn compare_results(
+    op: CompareOp,
+    shape: Shape,
+    regs: &[u32],
+    rs1: u8,
+    rs2: u8,
+) -> [u32; 32]
     requires { ⌜ Stands shape (now regs) rs1 × Stands shape (now regs) rs2 ⌝ }
     ensures { λ r. ⌜ r ≡ compareLanes op shape (now (regs .entry)) rs1 rs2 ⌝ }
 {
@@ -71,7 +77,7 @@ pub fn compare_results(op: CompareOp, shape: Shape, regs: &[u32], rs1: u8, rs2: 
 }
 
 // The predicate after the lanes `t` wrote their results to it.
-pub fn predicate_after(results: [u32; 32], t: Lanes, predicate: Lanes, width: u32) -> Lanes
+pub(crate) fn predicate_after(results: [u32; 32], t: Lanes, predicate: Lanes, width: u32) -> Lanes
     requires { ⌜ width ≤ widest ⌝ }
     ensures { λ r. ⌜ r ≡ predicateOf width predicate t results ⌝ }
 {

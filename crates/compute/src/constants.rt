@@ -7,7 +7,7 @@ ghost use Rattle.compute.specs.Values.{specialOf};
 use crate::masks::chosen;
 
 // What MOV_SPECIAL gives every lane.
-pub fn special_results(special: u8, width: u32) -> [u32; 32]
+pub(crate) fn special_results(special: u8, width: u32) -> [u32; 32]
     requires { ⌜ width ≤ widest ⌝ }
     ensures { λ r. ⌜ r ≡ byLane width (specialOf special) ⌝ }
 {
@@ -22,7 +22,7 @@ pub fn special_results(special: u8, width: u32) -> [u32; 32]
 }
 
 // `number` for every lane.
-pub fn number_results(number: u32, width: u32) -> [u32; 32]
+pub(crate) fn number_results(number: u32, width: u32) -> [u32; 32]
     requires { ⌜ width ≤ widest ⌝ }
     ensures { λ r. ⌜ r ≡ byLane width (λ i. number) ⌝ }
 {

@@ -18,7 +18,7 @@ use words::instr::Space;
 use words::instr::TwoOp;
 
 // No fault.
-pub fn no_faults() -> Faults
+pub(crate) fn no_faults() -> Faults
     ensures { λ r. ⌜ r ≡ kinds.faults 0 0 0 0 ⌝ }
 {
     Faults {
@@ -31,7 +31,7 @@ pub fn no_faults() -> Faults
 }
 
 // Whether no lane faults.
-pub fn clear(faults: Faults) -> bool
+pub(crate) fn clear(faults: Faults) -> bool
     ensures { λ r. ⌜ r ≡ kinds.clear faults ⌝ }
 {
     (faults.odd == 0)
@@ -75,7 +75,13 @@ fn reach(at: [u32; 32], words: usize, t: Lanes, width: u32) -> Access
 }
 
 // The faults of the lanes `t` at their addresses, in a memory of so many words.
-pub fn address_faults(space: Space, at: [u32; 32], words: usize, t: Lanes, width: u32) -> Faults
+pub(crate) fn address_faults(
+    space: Space,
+    at: [u32; 32],
+    words: usize,
+    t: Lanes,
+    width: u32,
+) -> Faults
     requires { ⌜ width ≤ widest ⌝ }
     ensures { λ r. ⌜ r ≡ addressFaults space width at words t ⌝ }
 {
@@ -115,7 +121,7 @@ fn zero_lanes(t: Lanes, shape: Shape, regs: &[u32], register: u8) -> Lanes
 }
 
 // The faults of the lanes `t` that divide by zero.
-pub fn divisor_faults(op: TwoOp, t: Lanes, shape: Shape, regs: &[u32], rs2: u8) -> Faults
+pub(crate) fn divisor_faults(op: TwoOp, t: Lanes, shape: Shape, regs: &[u32], rs2: u8) -> Faults
     requires { ⌜ Stands shape (now regs) rs2 ⌝ }
     ensures { λ r. ⌜ r ≡ divisorFaults op shape (now (regs .entry)) rs2 t ⌝ }
 {

@@ -6,7 +6,7 @@ ghost use Rattle.lanes.specs.Sets.{widest, has, only};
 use lanes::Lanes;
 
 // Whether `lane` is in `set`.
-pub fn picks(set: Lanes, lane: u32) -> bool
+pub(crate) fn picks(set: Lanes, lane: u32) -> bool
     requires { ⌜ lane < widest ⌝ }
     ensures { λ r. ⌜ r ≡ has set lane ⌝ }
 {
@@ -14,7 +14,7 @@ pub fn picks(set: Lanes, lane: u32) -> bool
 }
 
 // `lane` alone, where it is in `set` and `test` holds, and else no lane.
-pub fn marked(set: Lanes, lane: u32, test: bool) -> Lanes
+pub(crate) fn marked(set: Lanes, lane: u32, test: bool) -> Lanes
     requires { ⌜ lane < widest ⌝ }
     ensures { λ r. ⌜ r ≡ only lane (has set lane && test) ⌝ }
 {
@@ -22,7 +22,7 @@ pub fn marked(set: Lanes, lane: u32, test: bool) -> Lanes
 }
 
 // `new` where `picked`, and else `old`.
-pub fn chosen(picked: bool, new: u32, old: u32) -> u32
+pub(crate) fn chosen(picked: bool, new: u32, old: u32) -> u32
     ensures { λ r. ⌜ r ≡ cond picked new old ⌝ }
 {
     if picked { new } else { old }

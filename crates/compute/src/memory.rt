@@ -21,7 +21,7 @@ pub enum Change {
 }
 
 // The addresses of a load or a store: RS1 plus the offset.
-pub fn addresses(shape: Shape, regs: &[u32], rs1: u8, offset: u32) -> [u32; 32]
+pub(crate) fn addresses(shape: Shape, regs: &[u32], rs1: u8, offset: u32) -> [u32; 32]
     requires { ⌜ Stands shape (now regs) rs1 ⌝ }
     ensures { λ r. ⌜ r ≡ addressesOf (shape .width) (gatherOf shape (now (regs .entry)) rs1) offset ⌝ }
 {
@@ -65,7 +65,7 @@ fn word_left(memory: &mut [u32], address: u32, value: u32, picked: bool)
 }
 
 // The words that the lanes' addresses name.
-pub fn load_lanes(at: [u32; 32], memory: &[u32], width: u32) -> [u32; 32]
+pub(crate) fn load_lanes(at: [u32; 32], memory: &[u32], width: u32) -> [u32; 32]
     requires { ⌜ width ≤ widest ⌝ }
     ensures { λ r. ⌜ r ≡ loadLanes width at (now (memory .entry)) ⌝ }
 {
@@ -80,7 +80,14 @@ pub fn load_lanes(at: [u32; 32], memory: &[u32], width: u32) -> [u32; 32]
 }
 
 // Stores register `rd` of the lanes `t` at their addresses, in rising lane order.
-pub fn store_lanes(at: [u32; 32], t: Lanes, rd: u8, shape: Shape, regs: &[u32], memory: &mut [u32])
+pub(crate) fn store_lanes(
+    at: [u32; 32],
+    t: Lanes,
+    rd: u8,
+    shape: Shape,
+    regs: &[u32],
+    memory: &mut [u32],
+)
     requires { ⌜ Stands shape (now regs) rd ⌝ }
     ensures { λ r. ⌜ now (memory .exit) ≡ changesOf (shape .width) at (λ i old. getD (gatherOf shape (now (regs .entry)) rd) i 0) t (now (memory .entry)) ⌝ }
 {
@@ -106,7 +113,7 @@ fn changed(change: Change, old: u32, operand: u32, desired: u32) -> u32
 
 // The atomics of the lanes `t`, in rising lane order, with their registers `rs2` and, for compare-and-swap, `rs3`. The answer is the
 // word that each found.
-pub fn change_lanes(
+pub(crate) fn change_lanes(
     change: Change,
     at: [u32; 32],
     t: Lanes,

@@ -58,7 +58,7 @@ fn mov_lanes(shape: Shape, regs: &[u32], rs1: u8) -> [u32; 32]
 }
 
 // What `op` gives of every lane's RS1.
-pub fn one_results(op: OneOp, shape: Shape, regs: &[u32], rs1: u8) -> [u32; 32]
+pub(crate) fn one_results(op: OneOp, shape: Shape, regs: &[u32], rs1: u8) -> [u32; 32]
     requires { ⌜ Stands shape (now regs) rs1 ⌝ }
     ensures { λ r. ⌜ r ≡ oneLanes op shape (now (regs .entry)) rs1 ⌝ }
 {

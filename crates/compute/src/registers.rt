@@ -7,14 +7,14 @@ use crate::masks::picks;
 use lanes::Lanes;
 
 // Where register `register` of `lane` stands.
-pub fn slot(shape: Shape, lane: u32, register: u8) -> usize
+pub(crate) fn slot(shape: Shape, lane: u32, register: u8) -> usize
     ensures { λ r. ⌜ r ≡ slotIn shape lane register ⌝ }
 {
     (lane as usize) * (shape.registers as usize) + (register as usize)
 }
 
 // Register `register` of every lane.
-pub fn gather(shape: Shape, regs: &[u32], register: u8) -> [u32; 32]
+pub(crate) fn gather(shape: Shape, regs: &[u32], register: u8) -> [u32; 32]
     requires { ⌜ Stands shape (now regs) register ⌝ }
     ensures { λ r. ⌜ r ≡ gatherOf shape (now (regs .entry)) register ⌝ }
 {
@@ -31,7 +31,7 @@ pub fn gather(shape: Shape, regs: &[u32], register: u8) -> [u32; 32]
 }
 
 // Writes the results of the lanes `t` to their registers `rd`.
-pub fn write_lanes(results: [u32; 32], t: Lanes, rd: u8, shape: Shape, regs: &mut [u32])
+pub(crate) fn write_lanes(results: [u32; 32], t: Lanes, rd: u8, shape: Shape, regs: &mut [u32])
     requires { ⌜ Stands shape (now regs) rd ⌝ }
     ensures { λ r. ⌜ now (regs .exit) ≡ writeLanes shape (now (regs .entry)) rd t results ⌝ }
 {

@@ -137,7 +137,7 @@ fn sar_lanes(shape: Shape, regs: &[u32], rs1: u8, rs2: u8) -> [u32; 32]
 }
 
 // What `op` gives of every lane's RS1 and RS2.
-pub fn two_results(op: TwoOp, shape: Shape, regs: &[u32], rs1: u8, rs2: u8) -> [u32; 32]
+pub(crate) fn two_results(op: TwoOp, shape: Shape, regs: &[u32], rs1: u8, rs2: u8) -> [u32; 32]
     requires { ⌜ Stands shape (now regs) rs1 × Stands shape (now regs) rs2 ⌝ }
     ensures { λ r. ⌜ r ≡ twoLanes op shape (now (regs .entry)) rs1 rs2 ⌝ }
 {

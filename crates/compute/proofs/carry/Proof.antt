@@ -36,7 +36,10 @@ enum-known-op : tie.Need-enum-known-op
 enum-known-op c = search needs
 
 carry-two-requires : tie.Need-carry-two-requires
-carry-two-requires c κs = let z = c .before .before .before .before .before .before .before in let e = c .before .before .op .given .1 in (rd-stands z _ e refl, rs1-stands z _ e refl, rs2-stands z _ e refl)
+carry-two-requires c κs =
+    let z = c .before .before .before .before .before .before .before in
+    let e = c .before .before .op .given .1 in
+    (rd-stands z _ e refl, rs1-stands z _ e refl, rs2-stands z _ e refl)
 
 enum-known-op-2 : tie.Need-enum-known-op-2
 enum-known-op-2 c = search needs
@@ -45,7 +48,10 @@ no-faults-requires : tie.Need-no-faults-requires
 no-faults-requires c κs = search needs
 
 compare-results-requires : tie.Need-compare-results-requires
-compare-results-requires c κs = let z = c .before .before .before .before .before .before .before .before in let e = c .before .before .before .op2 .given .1 in (rs1-stands z _ e refl, rs2-stands z _ e refl)
+compare-results-requires c κs =
+    let z = c .before .before .before .before .before .before .before .before in
+    let e = c .before .before .before .op2 .given .1 in
+    (rs1-stands z _ e refl, rs2-stands z _ e refl)
 
 predicate-after-requires : tie.Need-predicate-after-requires
 predicate-after-requires c κs = slim (c .before .before .before .before .before .before .before .before .before) _ (c .before .before .before .before .op2 .given .1)
@@ -54,10 +60,16 @@ enum-known-op-3 : tie.Need-enum-known-op-3
 enum-known-op-3 c = search needs
 
 one-results-requires : tie.Need-one-results-requires
-one-results-requires c κs = let z = c .before .before .before .before .before .before .before in let e = c .before .before .op3 .given .1 in rs1-stands z _ e refl
+one-results-requires c κs =
+    let z = c .before .before .before .before .before .before .before in
+    let e = c .before .before .op3 .given .1 in
+    rs1-stands z _ e refl
 
 carry-value-requires : tie.Need-carry-value-requires
-carry-value-requires c κs = let z = c .before .before .before .before .before .before .before .before .before in let e = c .before .before .before .before .op3 .given .1 in rd-stands z _ e refl
+carry-value-requires c κs =
+    let z = c .before .before .before .before .before .before .before .before .before in
+    let e = c .before .before .before .before .op3 .given .1 in
+    rd-stands z _ e refl
 
 enum-told : tie.Need-enum-told
 enum-told c = search needs
@@ -66,7 +78,10 @@ special-results-requires : tie.Need-special-results-requires
 special-results-requires c κs = slim (c .before .before .before .before .before) _ (c .enum-told .given .1)
 
 carry-value-requires-2 : tie.Need-carry-value-requires-2
-carry-value-requires-2 c κs = let z = c .before .before .before .before .before .before .before in let e = c .before .before .enum-told .given .1 in rd-stands z _ e refl
+carry-value-requires-2 c κs =
+    let z = c .before .before .before .before .before .before .before in
+    let e = c .before .before .enum-told .given .1 in
+    rd-stands z _ e refl
 
 enum-told-2 : tie.Need-enum-told-2
 enum-told-2 c = search needs
@@ -75,31 +90,46 @@ number-results-requires : tie.Need-number-results-requires
 number-results-requires c κs = slim (c .before .before .before .before .before) _ (c .enum-told2 .given .1)
 
 carry-value-requires-3 : tie.Need-carry-value-requires-3
-carry-value-requires-3 c κs = let z = c .before .before .before .before .before .before .before in let e = c .before .before .enum-told2 .given .1 in rd-stands z _ e refl
+carry-value-requires-3 c κs =
+    let z = c .before .before .before .before .before .before .before in
+    let e = c .before .before .enum-told2 .given .1 in
+    rd-stands z _ e refl
 
 enum-known-op-4 : tie.Need-enum-known-op-4
 enum-known-op-4 c = search needs
 
 carry-load-requires : tie.Need-carry-load-requires
-carry-load-requires c κs = let z = c .before .before .before .before .before .before .before .before .before in let e = c .before .before .before .before .op4 .given .1 in (rd-stands z _ e refl, rs1-stands z _ e refl)
+carry-load-requires c κs =
+    let z = c .before .before .before .before .before .before .before .before .before in
+    let e = c .before .before .before .before .op4 .given .1 in
+    (rd-stands z _ e refl, rs1-stands z _ e refl)
 
 enum-known-op-5 : tie.Need-enum-known-op-5
 enum-known-op-5 c = search needs
 
 carry-store-requires : tie.Need-carry-store-requires
-carry-store-requires c κs = let z = c .before .before .before .before .before .before .before .before .before in let e = c .before .before .before .before .op5 .given .1 in (rd-stands z _ e refl, rs1-stands z _ e refl)
+carry-store-requires c κs =
+    let z = c .before .before .before .before .before .before .before .before .before in
+    let e = c .before .before .before .before .op5 .given .1 in
+    (rd-stands z _ e refl, rs1-stands z _ e refl)
 
 enum-known-op-6 : tie.Need-enum-known-op-6
 enum-known-op-6 c = search needs
 
 carry-change-requires : tie.Need-carry-change-requires
-carry-change-requires c κs = let z = c .before .before .before .before .before .before .before .before in let e = c .before .before .before .op6 .given .1 in (rd-stands z _ e refl, rs1-stands z _ e refl, rs2-stands z _ e refl, rs2-stands z _ e refl)
+carry-change-requires c κs =
+    let z = c .before .before .before .before .before .before .before .before in
+    let e = c .before .before .before .op6 .given .1 in
+    (rd-stands z _ e refl, rs1-stands z _ e refl, rs2-stands z _ e refl, rs2-stands z _ e refl)
 
 enum-told-3 : tie.Need-enum-told-3
 enum-told-3 c = search needs
 
 carry-change-requires-2 : tie.Need-carry-change-requires-2
-carry-change-requires-2 c κs = let z = c .before .before .before .before .before .before .before in let e = c .before .before .enum-told3 .given .1 in (rd-stands z _ e refl, rs1-stands z _ e refl, rs2-stands z _ e refl, rs3-stands z _ e refl)
+carry-change-requires-2 c κs =
+    let z = c .before .before .before .before .before .before .before in
+    let e = c .before .before .enum-told3 .given .1 in
+    (rd-stands z _ e refl, rs1-stands z _ e refl, rs2-stands z _ e refl, rs3-stands z _ e refl)
 
 enum-told-4 : tie.Need-enum-told-4
 enum-told-4 c = search needs
@@ -184,7 +214,7 @@ same-length-13 c = search needs
 returns-8 : tie.Need-returns-8
 returns-8 c =
     let a = c .before .before .before .before .before .before .before .before .before .before .before .before .before .args in
-    arm-atomic (a .shape) (a .x) (a .t) (a .predicate) (a .regs .now) (a .device .now) (a .local .now) _ (c .before .before .before .before .before .before .before .before .op6 .given .1) _ _ _ (c .before .before .before .before .carry-change .ensures .0) (c .before .before .before .before .carry-change .ensures .1)
+    arm-atomic (a .shape) (a .x) (a .t) (a .predicate) (a .regs .now) (a .device .now) (a .local .now) _ (c .before .before .before .before .before .before .before .before .op6 .given .1) _ _ _ (c .before .before .before .before .carry-change .ensures)
 
 same-length-14 : tie.Need-same-length-14
 same-length-14 c = search needs
@@ -195,7 +225,7 @@ same-length-15 c = search needs
 returns-9 : tie.Need-returns-9
 returns-9 c =
     let a = c .before .before .before .before .before .before .before .before .before .before .before .before .args in
-    arm-swap (a .shape) (a .x) (a .t) (a .predicate) (a .regs .now) (a .device .now) (a .local .now) (c .before .before .before .before .before .before .before .enum-told3 .given .1) _ _ _ (c .before .before .before .before .carry-change2 .ensures .0) (c .before .before .before .before .carry-change2 .ensures .1)
+    arm-swap (a .shape) (a .x) (a .t) (a .predicate) (a .regs .now) (a .device .now) (a .local .now) (c .before .before .before .before .before .before .before .enum-told3 .given .1) _ _ _ (c .before .before .before .before .carry-change2 .ensures)
 
 returns-10 : tie.Need-returns-10
 returns-10 c =

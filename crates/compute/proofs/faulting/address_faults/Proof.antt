@@ -1,5 +1,4 @@
 -- `compute::faulting::address_faults` meets its contract, by cases of the memory.
-use mathlib.Core.Path.{_≡_}
 use lib.ListN.{getD}
 use borrow.Author.Needs.{needs}
 use Rattle.compute.proofs.FaultKinds.{device-kinds, local-kinds}

@@ -1,5 +1,5 @@
 -- `compute::memory::addresses` meets its contract: at turn i the lanes below i have their results.
-use mathlib.Core.Path.{_≡_, ap, _∙_}
+use mathlib.Core.Path.{ap, _∙_}
 use Prim.Native.Nat.{ℕ, _-_, _<_}
 use native.Mathlib.Omega.{arith}
 use lib.ListN.{length, getD}

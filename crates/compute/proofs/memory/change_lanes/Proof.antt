@@ -1,14 +1,12 @@
 -- `compute::memory::change_lanes` meets its contract: at turn i the lanes below i have had their turns, and what each found stands in
 -- the answer.
-use mathlib.Core.Path.{_≡_, refl, ap, ap₂, _∙_}
-use mathlib.Core.Bool.{cond}
-use mathlib.Core.List.{List}
+use mathlib.Core.Path.{ap₂, _∙_}
 use Prim.Native.Nat.{ℕ, _-_, _<_}
 use native.Mathlib.Omega.{arith}
-use lib.ListN.{length, getD}
+use lib.ListN.{length}
 use borrow.Author.Needs.{needs}
 use Rattle.ground.proofs.Turns.{Turned, turned-none, turned-more, turned-all, length-turned}
-use Rattle.compute.specs.Memory.{wordAt, changeTurn, changesOf, oldOf}
+use Rattle.compute.specs.Memory.{changeTurn, changesOf, oldOf}
 use Rattle.compute.specs.Lanewise.{changeOf, changeTo}
 use Rattle.compute.proofs.Slots.{slot-in}
 use Rattle.compute.proofs.Lanewise.{read-gathered, Filled, filled-none, filled-more, filled-all}

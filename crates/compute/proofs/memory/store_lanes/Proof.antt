@@ -1,5 +1,5 @@
 -- `compute::memory::store_lanes` meets its contract: at turn i the lanes below i have stored.
-use mathlib.Core.Path.{_≡_, refl, _∙_}
+use mathlib.Core.Path.{refl}
 use mathlib.Core.List.{List}
 use Prim.Native.Nat.{ℕ, _-_, _<_}
 use native.Mathlib.Omega.{arith}

@@ -1,16 +1,14 @@
-use native.Mathlib.Omega.{arith}
+-- `compute::registers::gather` meets its contract: at turn i the lanes below i have their registers.
 use mathlib.Core.Path.{ap}
 use Prim.Native.Nat.{ℕ, _-_, _<_}
+use native.Mathlib.Omega.{arith}
 use lib.ListN.{length, getD}
-use Rattle.compute.proofs.Slots.{slot-in}
 use borrow.Author.Needs.{needs}
 use Rattle.compute.specs.Registers.{slotIn, gatherOf}
 use Rattle.compute.proofs.Lanewise.{Filled, filled-none, filled-more, filled-all}
+use Rattle.compute.proofs.Slots.{slot-in}
 use Rattle.compute.proofs.registers.gather.Statement.{statement}
 use Rattle.compute.proofs.registers.gather.Tie as tie
-use Rattle.compute.proofs.registers.gather.Reads as reads
-use Rattle.compute.proofs.registers.gather.Lts as lts
-use Rattle.compute.proofs.registers.slot.Reads as slot-reads
 
 abbrev Inv-loop : tie.InvT-loop
 Inv-loop shape regs register out₀ width i₀ out i = Filled (shape .width) (λ j. getD regs (slotIn shape j register) 0) out i
@@ -18,52 +16,42 @@ Inv-loop shape regs register out₀ width i₀ out i = Filled (shape .width) (λ
 abbrev μ-loop : tie.MeasureT-loop
 μ-loop shape regs register out₀ width i₀ out i = width - i
 
+-- the lane's register stands in the buffer
 inside : (z : tie.After-slot Inv-loop μ-loop) → z .slot .result < length (z .before .before .before .before .args .regs .now)
 inside z = slot-in (z .before .before .before .before .pre) _ _ (z .slot .ensures) (omega arith)
 
--- src/registers.rt:24:5
 loop-holds : tie.Need-loop-holds Inv-loop μ-loop
 loop-holds c = filled-none _ (c .before .pre .narrow)
 
--- src/registers.rt:25:13
 slot-requires : tie.Need-slot-requires Inv-loop μ-loop
 slot-requires c κs = search needs
 
--- src/registers.rt:26:17
 cast-k : tie.Need-cast-k Inv-loop μ-loop
 cast-k c = omega arith
 
--- src/registers.rt:27:18
 mul-out : tie.Need-mul-out Inv-loop μ-loop
 mul-out c = let h = inside c in omega arith
 
--- src/registers.rt:27:18
 shared-slice-read-out : tie.Need-shared-slice-read-out Inv-loop μ-loop
 shared-slice-read-out c = inside (c .before)
 
--- src/registers.rt:27:9
 mul-out-2 : tie.Need-mul-out-2 Inv-loop μ-loop
 mul-out-2 c = omega arith
 
--- src/registers.rt:27:9
 array-write-out : tie.Need-array-write-out Inv-loop μ-loop
 array-write-out c = omega arith
 
--- src/registers.rt:28:9
 add-i : tie.Need-add-i Inv-loop μ-loop
 add-i c = omega arith
 
--- src/registers.rt:24:5
 loop-less : tie.Need-loop-less Inv-loop μ-loop
 loop-less c = omega arith
 
--- src/registers.rt:24:5
 loop-again : tie.Need-loop-again Inv-loop μ-loop
 loop-again c =
     let z = c .before .before .before in
     filled-more (z .loop .inv) (omega arith) _ (ap (λ (k : ℕ). getD (z .before .before .args .regs .now) k 0) (c .before .slot .ensures))
 
--- src/registers.rt:17:1
 returns : tie.Need-returns Inv-loop μ-loop
 unfolding gatherOf
 returns c = filled-all (c .before .loop .inv) (omega arith)

@@ -1,9 +1,8 @@
 -- `compute::registers::write_lanes` meets its contract: at turn i the lanes below i have had their turns.
-use mathlib.Core.Path.{_≡_, ap, _∙_}
-use mathlib.Core.Bool.{Bool, cond}
-use Prim.Native.Nat.{ℕ, _-_, _<_}
+use mathlib.Core.Path.{_≡_}
+use Prim.Native.Nat.{_-_, _<_}
 use native.Mathlib.Omega.{arith}
-use lib.ListN.{length, getD}
+use lib.ListN.{length}
 use borrow.Author.Needs.{needs}
 use Rattle.ground.proofs.Turns.{Turned, turned-none, turned-more, turned-all, length-turned}
 use Rattle.compute.specs.Registers.{writeTurn, writeLanes}
