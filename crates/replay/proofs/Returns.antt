@@ -54,6 +54,7 @@ use Rattle.replay.specs.Replay.{
   stateMachine,
   resumeOf,
 }
+use Rattle.replay.specs.Calls.{budgeted, resumedWith, added}
 use Rattle.replay.proofs.Adding.{following, goOn, runs-add}
 use Rattle.replay.proofs.Keeping.{OfCarrying, run-keeps, run-long}
 
@@ -75,10 +76,6 @@ unless-true false number e = absurd (let z : _≡_ {A = ℕ} 0 1 = cc in omega a
 
 true-unless : (ok : Bool) (number : ℕ) → ok ≡ true → unless ok number ≡ Fine
 true-unless ok number e = rw e
-
--- ---- the settings, with another budget
-abbrev pub budgeted : ℕ → Settings → Settings
-budgeted b s = record { width = s .width; registers = s .registers; lanes = s .lanes; budget = b }
 
 -- what the tests of a launch ask, the budget's apart
 pub record Launchable (s : Settings) (code : List ℕ) : Type 0 where
@@ -257,14 +254,7 @@ state-machine : (m : Machine) → length (m .wave .path) ≤ nesting
 state-machine m h =
     ap (λ (w : Wave). record { wave = w; preds = m .preds; regs = m .regs; memories = m .memories }) (wave-in (m .wave) (m .preds) h)
 
--- ---- STEPS ADD: n steps were made before
-abbrev pub added : ℕ → Answered → Answered
-added n x = record { outcome = x .outcome; steps = n + x .steps; state = x .state; regs = x .regs; memories = x .memories }
-
--- going on from what was answered, with a budget of b
-abbrev pub resumedWith : ℕ → Settings → List ℕ → Answered → Answered
-resumedWith b s code x = resumeOf (budgeted b s) (x .state) code (x .regs) (x .memories .device) (x .memories .local)
-
+-- ---- STEPS ADD
 module _ (carrying : OfCarrying) (s : Settings) (code : List ℕ) (l : Launchable s code) (a b : ℕ) (most : a + b ≤ mostSteps) (m : Machine)
     (o : InOrder s code l m) where
   abbrev earlier : Ran
