@@ -44,8 +44,8 @@ use Rattle.demands.specs.Path.{
   blockOf,
 }
 
-abbrev mk : Kind → ℕ → ℕ → ℕ → Mark
-mk k p a t = record { kind = k; place = p; active = a; lanes = t }
+abbrev pub marked : Kind → ℕ → ℕ → ℕ → Mark
+marked k p a t = record { kind = k; place = p; active = a; lanes = t }
 
 -- ---- what a step of a kind makes of the path, and where it may stand
 abbrev pub outer : List Block → List Block
@@ -149,24 +149,24 @@ loop-same u = three (u .base .block .part) (isLoop (u .base .block)) (turnedIn (
 loop-one : (u : Unclosed) {c : Bool} → isLoop (blockOf u) ≡ c → one (isLoop (u .base .block)) ≡ one c
 loop-one u e = ap one (sym (loop-same u) ∙ e)
 
-pub good-by : (k : Kind) (p a t : ℕ) (us : List Unclosed) → Lets k (map blockOf us) → Good 0 0 us → Good 0 0 (grown (mk k p a t) us)
+pub good-by : (k : Kind) (p a t : ℕ) (us : List Unclosed) → Lets k (map blockOf us) → Good 0 0 us → Good 0 0 (grown (marked k p a t) us)
 unfolding blocksIn loopsIn
-good-by opensIf p a t us c g = (refl, refl, shift (mk opensIf p a t) us 0 1 0 0 (λ m s k. omega arith) (λ m s k. omega arith) g)
-good-by turns p a t us c g = shift (mk turns p a t) us 0 0 0 0 (λ m s k. omega arith) (λ m s k. omega arith) g
+good-by opensIf p a t us c g = (refl, refl, shift (marked opensIf p a t) us 0 1 0 0 (λ m s k. omega arith) (λ m s k. omega arith) g)
+good-by turns p a t us c g = shift (marked turns p a t) us 0 0 0 0 (λ m s k. omega arith) (λ m s k. omega arith) g
 good-by closesIf p a t [] c g = absurd c
 good-by closesIf p a t (u ∷ us) c g =
     let z : one (isLoop (u .base .block)) ≡ 0 = loop-one u c in
-    shift (mk closesIf p a t) us 1 0 (0 + one (isLoop (u .base .block))) 0 (λ m s k. omega arith) (λ m s k. omega arith) (g .2)
-good-by opensLoop p a t us c g = (refl, refl, shift (mk opensLoop p a t) us 0 1 0 1 (λ m s k. omega arith) (λ m s k. omega arith) g)
-good-by breaks p a t us c g = shift (mk breaks p a t) us 0 0 0 0 (λ m s k. omega arith) (λ m s k. omega arith) g
-good-by continues p a t us c g = shift (mk continues p a t) us 0 0 0 0 (λ m s k. omega arith) (λ m s k. omega arith) g
-good-by goesRound p a t us c g = shift (mk goesRound p a t) us 0 0 0 0 (λ m s k. omega arith) (λ m s k. omega arith) g
+    shift (marked closesIf p a t) us 1 0 (0 + one (isLoop (u .base .block))) 0 (λ m s k. omega arith) (λ m s k. omega arith) (g .2)
+good-by opensLoop p a t us c g = (refl, refl, shift (marked opensLoop p a t) us 0 1 0 1 (λ m s k. omega arith) (λ m s k. omega arith) g)
+good-by breaks p a t us c g = shift (marked breaks p a t) us 0 0 0 0 (λ m s k. omega arith) (λ m s k. omega arith) g
+good-by continues p a t us c g = shift (marked continues p a t) us 0 0 0 0 (λ m s k. omega arith) (λ m s k. omega arith) g
+good-by goesRound p a t us c g = shift (marked goesRound p a t) us 0 0 0 0 (λ m s k. omega arith) (λ m s k. omega arith) g
 good-by closesLoop p a t [] c g = absurd (c)
 good-by closesLoop p a t (u ∷ us) c g =
     let z : one (isLoop (u .base .block)) ≡ 1 = loop-one u (c) in
-    shift (mk closesLoop p a t) us 1 0 (0 + one (isLoop (u .base .block))) 0 (λ m s k. omega arith) (λ m s k. omega arith) (g .2)
-good-by halts p a t us c g = shift (mk halts p a t) us 0 0 0 0 (λ m s k. omega arith) (λ m s k. omega arith) g
-good-by plain p a t us c g = shift (mk plain p a t) us 0 0 0 0 (λ m s k. omega arith) (λ m s k. omega arith) g
+    shift (marked closesLoop p a t) us 1 0 (0 + one (isLoop (u .base .block))) 0 (λ m s k. omega arith) (λ m s k. omega arith) (g .2)
+good-by halts p a t us c g = shift (marked halts p a t) us 0 0 0 0 (λ m s k. omega arith) (λ m s k. omega arith) g
+good-by plain p a t us c g = shift (marked plain p a t) us 0 0 0 0 (λ m s k. omega arith) (λ m s k. omega arith) g
 
 -- ---- the blocks after one more step
 -- a step that changes no block with d blocks and n loops open in it
@@ -200,35 +200,35 @@ module _ (e : Mark) (f : Block → Block)
           ap₂ _∷_ (inside u y (g .1 ∙ z)) (ih refl)
           ∙ sym (ap (λ (c : Bool). cond c (f (blockOf u) ∷ map blockOf us) (leave (e .lanes) (blockOf u) ∷ toLoop f (e .lanes) (map blockOf us))) (loop-same u ∙ y))
 
-all-leave : (p a t : ℕ) (us : List Unclosed) → map blockOf (map (add (mk halts p a t)) us) ≡ map (leave t) (map blockOf us)
+all-leave : (p a t : ℕ) (us : List Unclosed) → map blockOf (map (add (marked halts p a t)) us) ≡ map (leave t) (map blockOf us)
 unfolding turnedIn asideOf againOf leftOf
 all-leave p a t [] = refl
 all-leave p a t (u ∷ us) = ap₂ _∷_ refl (all-leave p a t us)
 
 pub path-by : (k : Kind) (p a t : ℕ) (us : List Unclosed) → Lets k (map blockOf us) → Good 0 0 us
-    → map blockOf (grown (mk k p a t) us) ≡ pathAfter k p a t (map blockOf us)
+    → map blockOf (grown (marked k p a t) us) ≡ pathAfter k p a t (map blockOf us)
 unfolding turnedIn asideOf againOf leftOf
-path-by opensIf p a t us c g = ap₂ _∷_ refl (same (mk opensIf p a t) 0 0 (λ u _ _. refl) us g)
+path-by opensIf p a t us c g = ap₂ _∷_ refl (same (marked opensIf p a t) 0 0 (λ u _ _. refl) us g)
 path-by turns p a t [] c g = absurd c
 path-by turns p a t (u ∷ us) c g =
     let z : isLoop (u .base .block) ≡ false = sym (loop-same u) ∙ ap (λ (x : ℕ). eqb x 3) c in
-    ap₂ _∷_ (rw (g .0, z)) (same (mk turns p a t) 1 _ (λ v k _. rw (some (blocksIn (v .base .blocks) (v .since)) k)) us (g .2))
+    ap₂ _∷_ (rw (g .0, z)) (same (marked turns p a t) 1 _ (λ v k _. rw (some (blocksIn (v .base .blocks) (v .since)) k)) us (g .2))
 path-by closesIf p a t [] c g = absurd c
-path-by closesIf p a t (u ∷ us) c g = same (mk closesIf p a t) 1 _ (λ v _ _. refl) us (g .2)
-path-by opensLoop p a t us c g = ap₂ _∷_ refl (same (mk opensLoop p a t) 0 0 (λ u _ _. refl) us g)
+path-by closesIf p a t (u ∷ us) c g = same (marked closesIf p a t) 1 _ (λ v _ _. refl) us (g .2)
+path-by opensLoop p a t us c g = ap₂ _∷_ refl (same (marked opensLoop p a t) 0 0 (λ u _ _. refl) us g)
 path-by breaks p a t us c g =
-    to-loop (mk breaks p a t) (broken t) (λ u y z. rw (z, y)) (λ u y z. rw (z, y)) (λ u k. rw (some (loopsIn (u .base .loops) (u .since)) k)) 0 0 us refl g
+    to-loop (marked breaks p a t) (broken t) (λ u y z. rw (z, y)) (λ u y z. rw (z, y)) (λ u k. rw (some (loopsIn (u .base .loops) (u .since)) k)) 0 0 us refl g
 path-by continues p a t us c g =
-    to-loop (mk continues p a t) (continued t) (λ u y z. rw (z, y)) (λ u y z. rw (z, y)) (λ u k. rw (some (loopsIn (u .base .loops) (u .since)) k)) 0 0 us refl g
+    to-loop (marked continues p a t) (continued t) (λ u y z. rw (z, y)) (λ u y z. rw (z, y)) (λ u k. rw (some (loopsIn (u .base .loops) (u .since)) k)) 0 0 us refl g
 path-by goesRound p a t [] c g = absurd (c)
 path-by goesRound p a t (u ∷ us) c g =
     let z : isLoop (u .base .block) ≡ true = sym (loop-same u) ∙ c in
     let y : one (isLoop (u .base .block)) ≡ 1 = ap one z in
-    ap₂ _∷_ (rw (g .1, z)) (same (mk goesRound p a t) 1 _ (λ v _ k. rw (some (loopsIn (v .base .loops) (v .since)) (omega arith))) us (g .2))
+    ap₂ _∷_ (rw (g .1, z)) (same (marked goesRound p a t) 1 _ (λ v _ k. rw (some (loopsIn (v .base .loops) (v .since)) (omega arith))) us (g .2))
 path-by closesLoop p a t [] c g = absurd (c)
-path-by closesLoop p a t (u ∷ us) c g = same (mk closesLoop p a t) 1 _ (λ v _ _. refl) us (g .2)
+path-by closesLoop p a t (u ∷ us) c g = same (marked closesLoop p a t) 1 _ (λ v _ _. refl) us (g .2)
 path-by halts p a t us c g = all-leave p a t us
-path-by plain p a t us c g = same (mk plain p a t) 0 0 (λ u _ _. refl) us g
+path-by plain p a t us c g = same (marked plain p a t) 0 0 (λ u _ _. refl) us g
 
 -- ---- the steps' own
 pub given-good : (d n : ℕ) (bs : List Block) → Good d n (given d n bs)
