@@ -57,6 +57,7 @@ use Rattle.demands.specs.Path.{
   marksOf,
   pathFrom,
 }
+use Rattle.demands.specs.Closing.{ClosesBlock, EachHandsBack}
 use Rattle.demands.proofs.Reading.{marked, outer, innermostBy, pathAfter, Lets, Good, grow, good-by, path-by, given-good, given-same}
 
 -- ---- one more step
@@ -65,9 +66,18 @@ pub record Reads (bs : List Block) (es : List Step) (p : List Block) : Type 0 wh
   pub good : Good 0 0 (unclosed bs 0 (marksOf bs es))
   pub path : pathFrom bs es ≡ p
 
-pub reads-none : (bs : List Block) → Reads bs [] bs
+reads-none : (bs : List Block) → Reads bs [] bs
 unfolding marksOf unclosed
 reads-none bs = record { good = given-good 0 0 bs; path = given-same 0 0 bs }
+
+-- of a wave after the steps es: its open blocks are read from them, and every block that they closed has handed back its lanes
+pub record Told (bs : List Block) (es : List Step) (w : Wave) : Type 0 where
+  pub reads : Reads bs es (w .path)
+  pub handed : EachHandsBack bs (w .active) es
+
+-- before any step
+pub told-none : (w : Wave) → Told (w .path) [] w
+told-none w = record { reads = reads-none (w .path); handed = tt }
 
 reads-more : (bs : List Block) (es : List Step) (e : Step) (p : List Block) → Lets (kindOf (controlIn (e .instr .op)) (closing (e .active) p)) p
     → Reads bs es p
@@ -206,8 +216,8 @@ module _ (code : List ℕ) (registers : ℕ) (checked : checkOf (codeOf code reg
       f
 
   module _ (bs : List Block) where
-    -- A STEP: the path read from the steps goes with the wave's
-    pub step-reads : (m : Machine) (es : List Step) → m .wave .place < length code → MachineFits m → clear (stepAt s code m .faults) ≡ true
+    -- the path read from the steps goes with the wave's
+    step-reads : (m : Machine) (es : List Step) → m .wave .place < length code → MachineFits m → clear (stepAt s code m .faults) ≡ true
         → Reads bs es (m .wave .path) → Reads bs (taken code m ∷ es) (stepAt s code m .end .wave .path)
     step-reads m es h f e r =
         let x : Instr = instrAt code (m .wave .place) in
@@ -215,10 +225,9 @@ module _ (code : List ℕ) (registers : ℕ) (checked : checkOf (codeOf code reg
         subst (Reads bs (taken code m ∷ es)) (sym (g .1) ∙ ap (λ (v : Machine). v .wave .path) (sym (went s code m e)))
         (reads-more bs es (taken code m) (m .wave .path) (g .0) r)
 
-    -- and one that closes a block makes exactly the lanes active that entered it, less those that left it
-    pub step-hands-back : (m : Machine) (es : List Step) → m .wave .place < length code → MachineFits m → clear (stepAt s code m .faults) ≡ true
-        → Reads bs es (m .wave .path) → isCloser (mark (taken code m) (closing (m .wave .active) (pathFrom bs es))) ≡ true
-        → HandsBack (stepAt s code m .end .wave .active) (pathFrom bs es)
+    -- a step that closes a block makes exactly the lanes active that entered it, less those that left it
+    step-hands-back : (m : Machine) (es : List Step) → m .wave .place < length code → MachineFits m → clear (stepAt s code m .faults) ≡ true
+        → Reads bs es (m .wave .path) → ClosesBlock bs (taken code m) es → HandsBack (stepAt s code m .end .wave .active) (pathFrom bs es)
     step-hands-back m es h f e r c =
         let x : Instr = instrAt code (m .wave .place) in
         let own : isCloser (mark (taken code m) (closing (m .wave .active) (m .wave .path))) ≡ true =
@@ -227,26 +236,32 @@ module _ (code : List ℕ) (registers : ℕ) (checked : checkOf (codeOf code reg
         subst (λ (v : Machine). HandsBack (v .wave .active) (pathFrom bs es)) (sym (went s code m e))
         (subst (HandsBack (waveAfter (x .op) (launchedOf s) (lanesOf x m) (m .wave) .active)) (sym (r .path)) g)
 
-    ends : {ds es : List Step} {x y : Ran} → ds ≡ es → x ≡ y → Reads bs es (y .end .wave .path) → Reads bs ds (x .end .wave .path)
+    -- A STEP
+    pub step-told : (m : Machine) (es : List Step) → m .wave .place < length code → MachineFits m → clear (stepAt s code m .faults) ≡ true
+        → Told bs es (m .wave) → Told bs (taken code m ∷ es) (stepAt s code m .end .wave)
+    step-told m es h f e r =
+        record { reads = step-reads m es h f e (r .reads); handed = (step-hands-back m es h f e (r .reads), r .handed) }
+
+    ends : {ds es : List Step} {x y : Ran} → ds ≡ es → x ≡ y → Told bs es (y .end .wave) → Told bs ds (x .end .wave)
     ends {es = es} {x} d e r =
-        subst (λ (z : List Step). Reads bs z (x .end .wave .path)) (sym d) (subst (λ (z : Ran). Reads bs es (z .end .wave .path)) (sym e) r)
+        subst (λ (z : List Step). Told bs z (x .end .wave)) (sym d) (subst (λ (z : Ran). Told bs es (z .end .wave)) (sym e) r)
 
     module _ (carrying : OfCarrying) where
       -- A RUN
-      pub run-reads : (b : ℕ) (m : Machine) (es : List Step) → MachineFits m → Reads bs es (m .wave .path)
-          → Reads bs (stepsOf s code b m es) (runOf s code b m .end .wave .path)
-      run-reads zero m es f r =
+      pub run-told : (b : ℕ) (m : Machine) (es : List Step) → MachineFits m → Told bs es (m .wave)
+          → Told bs (stepsOf s code b m es) (runOf s code b m .end .wave)
+      run-told zero m es f r =
           ⊎-elim (λ e. ends (steps-none s code m es) (at-ended s code 0 m e) r) (λ e. ends (steps-none s code m es) (at-budget s code m e) r)
           (split (endedOf s code m))
-      run-reads (suc b) m es f r =
+      run-told (suc b) m es f r =
           ⊎-elim
           (λ e. ends (steps-ended s code m es (suc b) e) (at-ended s code (suc b) m e) r)
           (λ e.
           ⊎-elim
           (λ c.
           ends (steps-clear s code m es b e c) (at-clear s code b m e c)
-          (run-reads b (stepAt s code m .end) (taken code m ∷ es)
-          (step-keeps code registers checked short carrying s n m (inside s code m e) f) (step-reads m es (inside s code m e) f c r)))
+          (run-told b (stepAt s code m .end) (taken code m ∷ es)
+          (step-keeps code registers checked short carrying s n m (inside s code m e) f) (step-told m es (inside s code m e) f c r)))
           (λ c. ends (steps-fault s code m es b e c) (at-fault s code b m e c) r)
           (split (clear (stepAt s code m .faults))))
           (split (endedOf s code m))

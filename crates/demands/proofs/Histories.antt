@@ -1,5 +1,5 @@
--- At every point of every history the open blocks of the state that was answered are those read from its steps. Each call goes on from a
--- machine that the state holds, so that the runs of the calls follow one another.
+-- At every point of every history the open blocks of the state that was answered are those read from its steps, and every block that was
+-- closed handed back its lanes. Each call goes on from a machine that the state holds, so that the runs of the calls follow one another.
 use mathlib.Core.Path.{_≡_, refl, sym, ap, _∙_, subst}
 use mathlib.Core.List.{List, [], _∷_}
 use Prim.Native.Nat.{ℕ, _+_, _*_, _≤_}
@@ -39,27 +39,35 @@ use Rattle.replay.proofs.Returns.{
   state-machine,
 }
 use Rattle.demands.specs.Steps.{Step, stepsOf}
-use Rattle.demands.specs.Path.{pathFrom, pathOf}
+use Rattle.demands.specs.Path.{pathFrom}
 use Rattle.demands.specs.History.{Point, further, furtherBy, afterLaunch, afterResume}
-use Rattle.demands.proofs.Following.{Reads, reads-none, run-reads}
+use Rattle.demands.specs.Closing.{EachHandsBack}
+use Rattle.demands.proofs.Following.{Told, told-none, run-told}
 
 -- each budget is allowed
 abbrev pub Allowed : List ℕ → Type 0
 Allowed [] = Unit
 Allowed (b ∷ bs) = (b ≤ mostSteps) × Allowed bs
 
+-- what the steps tell of the state that was answered, with bs the blocks that were open before them
+pub record Tells (bs : List Block) (p : Point) : Type 0 where
+  -- its open blocks are the path read from the steps
+  pub path : waveIn (p .answer .state) .path ≡ pathFrom bs (p .steps)
+  -- and whenever a step closed a block, the active lanes after it were the entered less the left
+  pub back : EachHandsBack bs (waveIn (p .answer .state) .active) (p .steps)
+
 module _ (carrying : OfCarrying) (s : Settings) (code : List ℕ) (l : Launchable s code) (bs : List Block) where
-  -- at a point of a history the answer holds a machine that is in order, whose open blocks are read from the steps
+  -- at a point of a history the answer holds a machine that is in order, of which the steps tell
   record Holds (p : Point) : Type 0 where
     machine : Machine
     state : p .answer .state ≡ stateOf (machine .wave) (machine .preds)
     regs : p .answer .regs ≡ machine .regs
     memories : p .answer .memories ≡ machine .memories
     order : InOrder s code l machine
-    reads : Reads bs (p .steps) (machine .wave .path)
+    told : Told bs (p .steps) (machine .wave)
 
   -- a run with a budget from such a machine
-  run-holds : (b : ℕ) (m : Machine) (es : List Step) → InOrder s code l m → Reads bs es (m .wave .path)
+  run-holds : (b : ℕ) (m : Machine) (es : List Step) → InOrder s code l m → Told bs es (m .wave)
       → Holds (record { answer = ending (runOf (budgeted b s) code b m); steps = stepsOf (budgeted b s) code b m es })
   run-holds b m es o r =
       let short : length code ≤ mostWords = leb-true (length code) mostWords (l .short) in
@@ -73,7 +81,7 @@ module _ (carrying : OfCarrying) (s : Settings) (code : List ℕ) (l : Launchabl
               fits = run-keeps code (s .registers) (l .checked) short carrying (budgeted b s) (s .lanes) b m (o .fits);
               long = run-long carrying (budgeted b s) code b m ∙ o .long;
             };
-        reads = run-reads code (s .registers) (l .checked) short (budgeted b s) (s .lanes) bs carrying b m es (o .fits) r;
+        told = run-told code (s .registers) (l .checked) short (budgeted b s) (s .lanes) bs carrying b m es (o .fits) r;
       }
 
   roomy : (m : Machine) → InOrder s code l m → stateMachine (stateOf (m .wave) (m .preds)) (m .regs) (m .memories .device) (m .memories .local) ≡ m
@@ -100,40 +108,42 @@ module _ (carrying : OfCarrying) (s : Settings) (code : List ℕ) (l : Launchabl
       (λ (x : Answered). record { answer = x; steps = stepsOf (budgeted b s) code b (stateMachine (stateOf (m .wave) (m .preds)) (m .regs) (m .memories .device) (m .memories .local)) (p .steps) })
       (resumed (budgeted b s) code (m .regs) (m .memories .device) (m .memories .local) (stateOf (m .wave) (m .preds)) (in-order-resumes s code l b m o h))
       ∙ ap (λ (x : Machine). record { answer = ending (runOf (budgeted b s) code b x); steps = stepsOf (budgeted b s) code b x (p .steps) }) (roomy m o)))
-      (run-holds b m (p .steps) o (d .reads))
+      (run-holds b m (p .steps) o (d .told))
 
   history-holds : (budgets : List ℕ) (p : Point) → Allowed budgets → Holds p → Holds (furtherBy s code budgets p)
   history-holds [] p a d = d
   history-holds (b ∷ budgets) p a d = further-holds b (furtherBy s code budgets p) (a .0) (history-holds budgets p (a .1) d)
 
-  -- the open blocks of the state
-  blocks-read : (p : Point) → Holds p → waveIn (p .answer .state) .path ≡ pathFrom bs (p .steps)
-  blocks-read p d =
+  -- what the steps tell of the state
+  wave-is : (p : Point) (d : Holds p) → waveIn (p .answer .state) ≡ d .machine .wave
+  wave-is p d =
       let m : Machine = d .machine in
-      ap (λ (x : State). waveIn x .path) (d .state)
-      ∙ ap (λ (w : Wave). w .path) (wave-in (m .wave) (m .preds) (path-room code (s .registers) (s .lanes) (m .wave) (m .preds) (d .order .fits)))
-      ∙ sym (d .reads .path)
+      ap waveIn (d .state) ∙ wave-in (m .wave) (m .preds) (path-room code (s .registers) (s .lanes) (m .wave) (m .preds) (d .order .fits))
+
+  tells : (p : Point) → Holds p → Tells bs p
+  tells p d =
+      record {
+        path = ap (λ (w : Wave). w .path) (wave-is p d) ∙ sym (d .told .reads .path);
+        back = subst (λ (w : Wave). EachHandsBack bs (w .active) (p .steps)) (sym (wave-is p d)) (d .told .handed);
+      }
 
 module _ (carrying : OfCarrying) (s : Settings) (code regs device local : List ℕ) (budgets : List ℕ) (allowed : Allowed budgets) where
-  -- FROM A LAUNCH: at every point the open blocks are read from the steps alone
-  pub launch-path : launchTest s code regs ≡ Fine
-      → waveIn (furtherBy s code budgets (afterLaunch s code regs device local) .answer .state) .path
-      ≡ pathOf (furtherBy s code budgets (afterLaunch s code regs device local) .steps)
-  launch-path e =
+  -- FROM A LAUNCH: from the steps alone
+  pub launch-tells : launchTest s code regs ≡ Fine → Tells [] (furtherBy s code budgets (afterLaunch s code regs device local))
+  launch-tells e =
       let l = launchable s (s .budget) code regs e in
       let m : Machine = launchMachine s regs device local in
       let start : Holds carrying s code l [] (afterLaunch s code regs device local) =
       subst (λ (x : Answered). Holds carrying s code l [] (record { answer = x; steps = stepsOf s code (s .budget) m [] }))
       (sym (launched s code regs device local e))
-      (run-holds carrying s code l [] (s .budget) m [] (launch-in-order s code l regs device local (right-length s code regs e)) (reads-none [])) in
-      blocks-read carrying s code l [] (furtherBy s code budgets (afterLaunch s code regs device local))
+      (run-holds carrying s code l [] (s .budget) m [] (launch-in-order s code l regs device local (right-length s code regs e)) (told-none (m .wave))) in
+      tells carrying s code l [] (furtherBy s code budgets (afterLaunch s code regs device local))
       (history-holds carrying s code l [] budgets (afterLaunch s code regs device local) allowed start)
 
   -- FROM A HANDED-IN STATE: what went before is read from that state's sets
-  pub resume-path : (state : State) → resumeTest s state code regs ≡ Fine
-      → waveIn (furtherBy s code budgets (afterResume s state code regs device local) .answer .state) .path
-      ≡ pathFrom (waveIn state .path) (furtherBy s code budgets (afterResume s state code regs device local) .steps)
-  resume-path state e =
+  pub resume-tells : (state : State) → resumeTest s state code regs ≡ Fine
+      → Tells (waveIn state .path) (furtherBy s code budgets (afterResume s state code regs device local))
+  resume-tells state e =
       let fitting : Checked = unless (fitsTest code (s .registers) (s .lanes) (state .hot) (state .blocks)) 11 in
       let first-tests : launchTest s code regs ≡ Fine = then-first (launchTest s code regs) fitting e in
       let l = launchable s (s .budget) code regs first-tests in
@@ -144,6 +154,6 @@ module _ (carrying : OfCarrying) (s : Settings) (code regs device local : List �
       (unless-true (fitsTest code (s .registers) (s .lanes) (state .hot) (state .blocks)) 11 (then-second (launchTest s code regs) fitting e)) in
       let start : Holds carrying s code l bs (afterResume s state code regs device local) =
       subst (λ (x : Answered). Holds carrying s code l bs (record { answer = x; steps = stepsOf s code (s .budget) m [] }))
-      (sym (resumed s code regs device local state e)) (run-holds carrying s code l bs (s .budget) m [] o (reads-none bs)) in
-      blocks-read carrying s code l bs (furtherBy s code budgets (afterResume s state code regs device local))
+      (sym (resumed s code regs device local state e)) (run-holds carrying s code l bs (s .budget) m [] o (told-none (m .wave))) in
+      tells carrying s code l bs (furtherBy s code budgets (afterResume s state code regs device local))
       (history-holds carrying s code l bs budgets (afterResume s state code regs device local) allowed start)
