@@ -1,10 +1,10 @@
 -- Along a run of checked code the wave's open blocks are those read from the steps, and a block that closes hands back the lanes that
 -- entered it, less those that left it. By induction along the run: the code lets each instruction stand only where its rule can act.
 use mathlib.Core.Path.{_≡_, refl, sym, ap, _∙_, subst}
-use mathlib.Core.Bool.{Bool, true, false, cond, not, _||_}
+use mathlib.Core.Bool.{Bool, true, false, cond}
 use mathlib.Core.Logic.{⊎-elim}
 use mathlib.Core.List.{List, [], _∷_, map}
-use Prim.Native.Nat.{ℕ, zero, suc, _+_, _^_, _≤_, _<_}
+use Prim.Native.Nat.{ℕ, zero, suc, _+_, _≤_, _<_}
 use native.Mathlib.Nat.{zero-add}
 use native.Mathlib.Omega.{arith}
 use borrow.Author.Tests.{lt-ltb, eqb-true}
@@ -21,7 +21,7 @@ use Rattle.words.specs.Forms.{size}
 use Rattle.words.specs.Fetching.{instrAt, controlIn}
 use Rattle.words.proofs.Fetches.{control-is}
 use Rattle.blocks.specs.declared.structure.Checked.the-variants.{Fine}
-use Rattle.blocks.specs.Item.{controlItem, itemOf, itemAt}
+use Rattle.blocks.specs.Item.{itemOf}
 use Rattle.blocks.specs.Code.{codeOf}
 use Rattle.blocks.specs.Scan.{nesting, checkOf}
 use Rattle.wave.specs.declared.state.Block.{Block}
@@ -201,70 +201,70 @@ went s code m e = rw e
 
 -- ---- checked code
 module _ (code : List ℕ) (registers : ℕ) (checked : checkOf (codeOf code registers) ≡ Fine) (short : length code ≤ mostWords) (s : Settings) (n : ℕ)
-    where
-  -- the wave and its predicates fit
-  abbrev MachineFits : Machine → Type 0
-  MachineFits m = WaveFits code registers n (m .wave) (m .preds)
+  where
+    -- the wave and its predicates fit
+    abbrev MachineFits : Machine → Type 0
+    MachineFits m = WaveFits code registers n (m .wave) (m .preds)
 
-  ready : (m : Machine) → m .wave .place < length code → MachineFits m → (o : ControlOp)
-      → controlIn (instrAt code (m .wave .place) .op) ≡ ControlIn.Control o → Ready o (m .wave .path)
-  ready m h f o e =
-      let x : Op = instrAt code (m .wave .place) .op in
-      ready-there code registers checked (omega arith) (m .wave) h o n (m .preds)
-      (item-there code registers checked short (m .wave .place) (m .wave .path) h (f .blocks)
-      ∙ ap (λ (y : Op). itemOf y (size x)) (control-is x o e))
-      f
+    ready : (m : Machine) → m .wave .place < length code → MachineFits m → (o : ControlOp)
+        → controlIn (instrAt code (m .wave .place) .op) ≡ ControlIn.Control o → Ready o (m .wave .path)
+    ready m h f o e =
+        let x : Op = instrAt code (m .wave .place) .op in
+        ready-there code registers checked (omega arith) (m .wave) h o n (m .preds)
+        (item-there code registers checked short (m .wave .place) (m .wave .path) h (f .blocks)
+        ∙ ap (λ (y : Op). itemOf y (size x)) (control-is x o e))
+        f
 
-  module _ (bs : List Block) where
-    -- the path read from the steps goes with the wave's
-    step-reads : (m : Machine) (es : List Step) → m .wave .place < length code → MachineFits m → clear (stepAt s code m .faults) ≡ true
-        → Reads bs es (m .wave .path) → Reads bs (taken code m ∷ es) (stepAt s code m .end .wave .path)
-    step-reads m es h f e r =
-        let x : Instr = instrAt code (m .wave .place) in
-        let g = follows (launchedOf s) (lanesOf x m) (m .wave) (controlIn (x .op)) (size (x .op)) (ready m h f) in
-        subst (Reads bs (taken code m ∷ es)) (sym (g .1) ∙ ap (λ (v : Machine). v .wave .path) (sym (went s code m e)))
-        (reads-more bs es (taken code m) (m .wave .path) (g .0) r)
+    module _ (bs : List Block) where
+      -- the path read from the steps goes with the wave's
+      step-reads : (m : Machine) (es : List Step) → m .wave .place < length code → MachineFits m → clear (stepAt s code m .faults) ≡ true
+          → Reads bs es (m .wave .path) → Reads bs (taken code m ∷ es) (stepAt s code m .end .wave .path)
+      step-reads m es h f e r =
+          let x : Instr = instrAt code (m .wave .place) in
+          let g = follows (launchedOf s) (lanesOf x m) (m .wave) (controlIn (x .op)) (size (x .op)) (ready m h f) in
+          subst (Reads bs (taken code m ∷ es)) (sym (g .1) ∙ ap (λ (v : Machine). v .wave .path) (sym (went s code m e)))
+          (reads-more bs es (taken code m) (m .wave .path) (g .0) r)
 
-    -- a step that closes a block makes exactly the lanes active that entered it, less those that left it
-    step-hands-back : (m : Machine) (es : List Step) → m .wave .place < length code → MachineFits m → clear (stepAt s code m .faults) ≡ true
-        → Reads bs es (m .wave .path) → ClosesBlock bs (taken code m) es → HandsBack (stepAt s code m .end .wave .active) (pathFrom bs es)
-    step-hands-back m es h f e r c =
-        let x : Instr = instrAt code (m .wave .place) in
-        let own : isCloser (mark (taken code m) (closing (m .wave .active) (m .wave .path))) ≡ true =
-        subst (λ (p : List Block). isCloser (mark (taken code m) (closing (m .wave .active) p)) ≡ true) (r .path) c in
-        let g = back (launchedOf s) (lanesOf x m) (m .wave) n (m .preds) (f .sets) (controlIn (x .op)) (size (x .op)) (ready m h f) own in
-        subst (λ (v : Machine). HandsBack (v .wave .active) (pathFrom bs es)) (sym (went s code m e))
-        (subst (HandsBack (waveAfter (x .op) (launchedOf s) (lanesOf x m) (m .wave) .active)) (sym (r .path)) g)
+      -- a step that closes a block makes exactly the lanes active that entered it, less those that left it
+      step-hands-back : (m : Machine) (es : List Step) → m .wave .place < length code → MachineFits m → clear (stepAt s code m .faults) ≡ true
+          → Reads bs es (m .wave .path) → ClosesBlock bs (taken code m) es → HandsBack (stepAt s code m .end .wave .active) (pathFrom bs es)
+      step-hands-back m es h f e r c =
+          let x : Instr = instrAt code (m .wave .place) in
+          let own : isCloser (mark (taken code m) (closing (m .wave .active) (m .wave .path))) ≡ true =
+          subst (λ (p : List Block). isCloser (mark (taken code m) (closing (m .wave .active) p)) ≡ true) (r .path) c in
+          let g = back (launchedOf s) (lanesOf x m) (m .wave) n (m .preds) (f .sets) (controlIn (x .op)) (size (x .op)) (ready m h f) own in
+          subst (λ (v : Machine). HandsBack (v .wave .active) (pathFrom bs es)) (sym (went s code m e))
+          (subst (HandsBack (waveAfter (x .op) (launchedOf s) (lanesOf x m) (m .wave) .active)) (sym (r .path)) g)
 
-    -- A STEP
-    pub step-told : (m : Machine) (es : List Step) → m .wave .place < length code → MachineFits m → clear (stepAt s code m .faults) ≡ true
-        → Told bs es (m .wave) → Told bs (taken code m ∷ es) (stepAt s code m .end .wave)
-    step-told m es h f e r =
-        record { reads = step-reads m es h f e (r .reads); handed = (step-hands-back m es h f e (r .reads), r .handed) }
+      -- A STEP
+      pub step-told : (m : Machine) (es : List Step) → m .wave .place < length code → MachineFits m → clear (stepAt s code m .faults) ≡ true
+          → Told bs es (m .wave) → Told bs (taken code m ∷ es) (stepAt s code m .end .wave)
+      step-told m es h f e r =
+          record { reads = step-reads m es h f e (r .reads); handed = (step-hands-back m es h f e (r .reads), r .handed) }
 
-    ends : {ds es : List Step} {x y : Ran} → ds ≡ es → x ≡ y → Told bs es (y .end .wave) → Told bs ds (x .end .wave)
-    ends {es = es} {x} d e r =
-        subst (λ (z : List Step). Told bs z (x .end .wave)) (sym d) (subst (λ (z : Ran). Told bs es (z .end .wave)) (sym e) r)
+      ends : {ds es : List Step} {x y : Ran} → ds ≡ es → x ≡ y → Told bs es (y .end .wave) → Told bs ds (x .end .wave)
+      ends {es = es} {x} d e r =
+          subst (λ (z : List Step). Told bs z (x .end .wave)) (sym d) (subst (λ (z : Ran). Told bs es (z .end .wave)) (sym e) r)
 
-    module _ (carrying : OfCarrying) where
-      -- A RUN
-      pub run-told : (b : ℕ) (m : Machine) (es : List Step) → MachineFits m → Told bs es (m .wave)
-          → Told bs (stepsOf s code b m es) (runOf s code b m .end .wave)
-      run-told zero m es f r =
-          ⊎-elim (λ e. ends (steps-none s code m es) (at-ended s code 0 m e) r) (λ e. ends (steps-none s code m es) (at-budget s code m e) r)
-          (split (endedOf s code m))
-      run-told (suc b) m es f r =
-          ⊎-elim
-          (λ e. ends (steps-ended s code m es (suc b) e) (at-ended s code (suc b) m e) r)
-          (λ e.
-          ⊎-elim
-          (λ c.
-          ends (steps-clear s code m es b e c) (at-clear s code b m e c)
-          (run-told b (stepAt s code m .end) (taken code m ∷ es)
-          (step-keeps code registers checked short carrying s n m (inside s code m e) f) (step-told m es (inside s code m e) f c r)))
-          (λ c. ends (steps-fault s code m es b e c) (at-fault s code b m e c) r)
-          (split (clear (stepAt s code m .faults))))
-          (split (endedOf s code m))
+      module _ (carrying : OfCarrying) where
+        -- A RUN
+        pub run-told : (b : ℕ) (m : Machine) (es : List Step) → MachineFits m → Told bs es (m .wave)
+            → Told bs (stepsOf s code b m es) (runOf s code b m .end .wave)
+        run-told zero m es f r =
+            ⊎-elim (λ e. ends (steps-none s code m es) (at-ended s code 0 m e) r) (λ e. ends (steps-none s code m es) (at-budget s code m e) r)
+            (split (endedOf s code m))
+        run-told (suc b) m es f r =
+            ⊎-elim
+            (λ e. ends (steps-ended s code m es (suc b) e) (at-ended s code (suc b) m e) r)
+            (λ e.
+            ⊎-elim
+            (λ c.
+            ends (steps-clear s code m es b e c) (at-clear s code b m e c)
+            (run-told b (stepAt s code m .end) (taken code m ∷ es)
+            (step-keeps code registers checked short carrying s n m (inside s code m e) f) (step-told m es (inside s code m e) f c r)))
+            (λ c. ends (steps-fault s code m es b e c) (at-fault s code b m e c) r)
+            (split (clear (stepAt s code m .faults))))
+            (split (endedOf s code m))
 
 -- ---- the count of a run is that of its steps
 pub steps-counted : (s : Settings) (code : List ℕ) (b : ℕ) (m : Machine) (es : List Step)

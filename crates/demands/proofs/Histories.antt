@@ -2,8 +2,7 @@
 -- closed handed back its lanes. Each call goes on from a machine that the state holds, so that the runs of the calls follow one another.
 use mathlib.Core.Path.{_≡_, refl, sym, ap, _∙_, subst}
 use mathlib.Core.List.{List, [], _∷_}
-use Prim.Native.Nat.{ℕ, _+_, _*_, _≤_}
-use native.Mathlib.Omega.{arith}
+use Prim.Native.Nat.{ℕ, _≤_}
 use borrow.Author.Tests.{leb-true}
 use lib.ListN.{length}
 use Rattle.blocks.specs.declared.structure.Checked.{Checked}
@@ -11,7 +10,6 @@ use Rattle.blocks.specs.declared.structure.Checked.the-variants.{Fine}
 use Rattle.wave.specs.declared.state.Block.{Block}
 use Rattle.wave.specs.declared.state.State.{State}
 use Rattle.wave.specs.Wave.{Wave, stateOf, waveIn}
-use Rattle.wave.specs.Fits.{WaveFits}
 use Rattle.wave.specs.FitsTest.{fitsTest}
 use Rattle.wave.proofs.View.{wave-in}
 use Rattle.wave.proofs.Stays.{path-room}

@@ -4,7 +4,7 @@ use mathlib.Core.Path.{_≡_, refl, sym, ap, _∙_, subst}
 use mathlib.Core.Bool.{Bool, true, false, cond, _||_}
 use mathlib.Core.Logic.{⊎-elim}
 use mathlib.Core.List.{List}
-use Prim.Native.Nat.{ℕ, zero, suc, _+_, _^_, _≤_, _<_, max}
+use Prim.Native.Nat.{ℕ, zero, suc, _^_, _≤_, _<_, max}
 use native.Mathlib.Omega.{arith}
 use borrow.Author.Tests.{leb-false}
 use lib.Dec.{eqb, leb}
@@ -23,7 +23,7 @@ use Rattle.blocks.specs.declared.item.Item.{Item}
 use Rattle.blocks.specs.declared.structure.Checked.the-variants.{Fine}
 use Rattle.blocks.specs.Item.{itemOf, itemAt}
 use Rattle.blocks.specs.Code.{codeOf}
-use Rattle.blocks.specs.Scan.{Open, checkOf}
+use Rattle.blocks.specs.Scan.{checkOf}
 use Rattle.blocks.specs.OpenAt.{Found, nowhere, there, openAt}
 use Rattle.blocks.proofs.Instructions.{Instruction, instruction-there}
 use Rattle.wave.specs.declared.state.Block.{Block}
@@ -147,7 +147,7 @@ module _ (code : List ℕ) (registers : ℕ) (checked : checkOf (codeOf code reg
         omega (
           arith,
           joined (computed s x (lanesOf x m) m .after .predicate) (named (x .rd) (m .preds)) (lanesOf x m) i
-          (carrying .other-bits (shapeOf s) x (lanesOf x m) (record { predicate = named (x .rd) (m .preds); regs = m .regs; memories = m .memories }) i),
+              (carrying .other-bits (shapeOf s) x (lanesOf x m) (record { predicate = named (x .rd) (m .preds); regs = m .regs; memories = m .memories }) i),
           named-fits (first n) (m .preds) p (x .rd) i,
           executing-within (x .guard) (m .wave .active) (m .preds) i,
           active-launched n (m .wave) (m .preds) (f .sets) i,

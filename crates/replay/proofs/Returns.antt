@@ -1,16 +1,16 @@
 -- What a launch or a resume answers can be handed in again: its state fits. And a run of a + b steps is a run of a, and, where that
 -- stopped for want of budget, a resume of b from what it answered.
 use mathlib.Core.Path.{_≡_, refl, sym, ap, _∙_, subst}
-use mathlib.Core.Bool.{Bool, true, false, cond, _&&_, _||_}
+use mathlib.Core.Bool.{Bool, true, false, _&&_, _||_}
 use mathlib.Core.Logic.{⊎-elim}
 use mathlib.Core.List.{List}
-use Prim.Native.Nat.{ℕ, zero, suc, _+_, _*_, _≤_, min}
+use Prim.Native.Nat.{ℕ, zero, suc, _+_, _*_, _≤_}
 use native.Mathlib.Nat.{min-eq-left}
 use native.Mathlib.Omega.{arith}
 use borrow.Author.Tests.{eqb-true, eq-eqb, leb-true, le-leb}
 use lib.Dec.{eqb, leb}
 use lib.ListN.{length}
-use Rattle.ground.proofs.Bools.{never, and-left, and-right, and-both}
+use Rattle.ground.proofs.Bools.{and-left, and-right}
 use Rattle.ground.proofs.Tests.{or-cases}
 use Rattle.lanes.specs.Sets.{widest}
 use Rattle.blocks.specs.declared.structure.Checked.{Checked}
@@ -18,7 +18,7 @@ use Rattle.blocks.specs.declared.structure.Checked.the-variants.{Fine}
 use Rattle.blocks.specs.Code.{codeOf}
 use Rattle.blocks.specs.Scan.{nesting, checkOf}
 use Rattle.wave.specs.declared.state.State.{State}
-use Rattle.wave.specs.Wave.{Wave, stateOf, launch, clear}
+use Rattle.wave.specs.Wave.{Wave, stateOf}
 use Rattle.wave.specs.Fits.{WaveFits, Fits}
 use Rattle.wave.specs.FitsTest.{fitsTest}
 use Rattle.wave.proofs.View.{wave-in}
@@ -27,7 +27,7 @@ use Rattle.wave.proofs.Stays.{path-room, launch-fits, state-fits}
 use Rattle.compute.specs.Memory.{Memories}
 use Rattle.replay.specs.declared.settings.Settings.{Settings}
 use Rattle.replay.specs.declared.answers.Outcome.{Outcome}
-use Rattle.replay.specs.declared.answers.Outcome.the-variants.{Ended, OutOfBudget, Fault, Refused}
+use Rattle.replay.specs.declared.answers.Outcome.the-variants.{Ended, OutOfBudget}
 use Rattle.replay.specs.Machine.{Machine}
 use Rattle.replay.specs.Step.{launchedLanes, stepOf}
 use Rattle.replay.specs.Run.{Ran, stop, later, endedOf, stepAt, onward, runOf}
@@ -43,19 +43,16 @@ use Rattle.replay.specs.Replay.{
   launchTest,
   resumeTest,
   Answered,
-  refusal,
   ending,
   byTest,
   runFrom,
   launchMachine,
-  notLaunched,
-  memories,
   launchOf,
   stateMachine,
   resumeOf,
 }
 use Rattle.replay.specs.Calls.{budgeted, resumedWith, added}
-use Rattle.replay.proofs.Adding.{following, goOn, runs-add}
+use Rattle.replay.proofs.Adding.{following, runs-add}
 use Rattle.replay.proofs.Keeping.{OfCarrying, run-keeps, run-long}
 
 -- ---- what a test that was passed says
