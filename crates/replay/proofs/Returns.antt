@@ -1,16 +1,16 @@
 -- What a launch or a resume answers can be handed in again: its state fits. And a run of a + b steps is a run of a, and, where that
 -- stopped for want of budget, a resume of b from what it answered.
 use mathlib.Core.Path.{_≡_, refl, sym, ap, _∙_, subst}
-use mathlib.Core.Bool.{Bool, true, false, cond, _&&_, _||_}
+use mathlib.Core.Bool.{Bool, true, false, _&&_, _||_}
 use mathlib.Core.Logic.{⊎-elim}
 use mathlib.Core.List.{List}
-use Prim.Native.Nat.{ℕ, zero, suc, _+_, _*_, _≤_, min}
+use Prim.Native.Nat.{ℕ, zero, suc, _+_, _*_, _≤_}
 use native.Mathlib.Nat.{min-eq-left}
 use native.Mathlib.Omega.{arith}
 use borrow.Author.Tests.{eqb-true, eq-eqb, leb-true, le-leb}
 use lib.Dec.{eqb, leb}
 use lib.ListN.{length}
-use Rattle.ground.proofs.Bools.{never, and-left, and-right, and-both}
+use Rattle.ground.proofs.Bools.{and-left, and-right}
 use Rattle.ground.proofs.Tests.{or-cases}
 use Rattle.lanes.specs.Sets.{widest}
 use Rattle.blocks.specs.declared.structure.Checked.{Checked}
@@ -18,7 +18,7 @@ use Rattle.blocks.specs.declared.structure.Checked.the-variants.{Fine}
 use Rattle.blocks.specs.Code.{codeOf}
 use Rattle.blocks.specs.Scan.{nesting, checkOf}
 use Rattle.wave.specs.declared.state.State.{State}
-use Rattle.wave.specs.Wave.{Wave, stateOf, launch, clear}
+use Rattle.wave.specs.Wave.{Wave, stateOf}
 use Rattle.wave.specs.Fits.{WaveFits, Fits}
 use Rattle.wave.specs.FitsTest.{fitsTest}
 use Rattle.wave.proofs.View.{wave-in}
@@ -27,7 +27,7 @@ use Rattle.wave.proofs.Stays.{path-room, launch-fits, state-fits}
 use Rattle.compute.specs.Memory.{Memories}
 use Rattle.replay.specs.declared.settings.Settings.{Settings}
 use Rattle.replay.specs.declared.answers.Outcome.{Outcome}
-use Rattle.replay.specs.declared.answers.Outcome.the-variants.{Ended, OutOfBudget, Fault, Refused}
+use Rattle.replay.specs.declared.answers.Outcome.the-variants.{Ended, OutOfBudget}
 use Rattle.replay.specs.Machine.{Machine}
 use Rattle.replay.specs.Step.{launchedLanes, stepOf}
 use Rattle.replay.specs.Run.{Ran, stop, later, endedOf, stepAt, onward, runOf}
@@ -43,42 +43,36 @@ use Rattle.replay.specs.Replay.{
   launchTest,
   resumeTest,
   Answered,
-  refusal,
   ending,
   byTest,
   runFrom,
   launchMachine,
-  notLaunched,
-  memories,
   launchOf,
   stateMachine,
   resumeOf,
 }
-use Rattle.replay.proofs.Adding.{following, goOn, runs-add}
+use Rattle.replay.specs.Calls.{budgeted, resumedWith, added}
+use Rattle.replay.proofs.Adding.{following, runs-add}
 use Rattle.replay.proofs.Keeping.{OfCarrying, run-keeps, run-long}
 
 -- ---- what a test that was passed says
-then-first : (v next : Checked) → thenTest v next ≡ Fine → v ≡ Fine
+pub then-first : (v next : Checked) → thenTest v next ≡ Fine → v ≡ Fine
 then-first Checked.Fine next e = refl
 then-first (Checked.Refused k p) next e = e
 
-then-second : (v next : Checked) → thenTest v next ≡ Fine → next ≡ Fine
+pub then-second : (v next : Checked) → thenTest v next ≡ Fine → next ≡ Fine
 then-second Checked.Fine next e = e
 then-second (Checked.Refused k p) next e = absurd (let z : _≡_ {A = ℕ} 0 1 = cc in omega arith)
 
 then-both : (v next : Checked) → v ≡ Fine → next ≡ Fine → thenTest v next ≡ Fine
 then-both v next e f = rw (e, f)
 
-unless-true : (ok : Bool) (number : ℕ) → unless ok number ≡ Fine → ok ≡ true
+pub unless-true : (ok : Bool) (number : ℕ) → unless ok number ≡ Fine → ok ≡ true
 unless-true true number e = refl
 unless-true false number e = absurd (let z : _≡_ {A = ℕ} 0 1 = cc in omega arith)
 
 true-unless : (ok : Bool) (number : ℕ) → ok ≡ true → unless ok number ≡ Fine
 true-unless ok number e = rw e
-
--- ---- the settings, with another budget
-abbrev pub budgeted : ℕ → Settings → Settings
-budgeted b s = record { width = s .width; registers = s .registers; lanes = s .lanes; budget = b }
 
 -- what the tests of a launch ask, the budget's apart
 pub record Launchable (s : Settings) (code : List ℕ) : Type 0 where
@@ -119,7 +113,7 @@ launchable s b code regs e =
       checked = then-second (boundsTest (budgeted b s) code regs) (checkOf (codeOf code (s .registers))) e;
     }
 
-right-length : (s : Settings) (code regs : List ℕ) → launchTest s code regs ≡ Fine → length regs ≡ s .width * s .registers
+pub right-length : (s : Settings) (code regs : List ℕ) → launchTest s code regs ≡ Fine → length regs ≡ s .width * s .registers
 right-length s code regs e =
     let t1 = then-first (boundsTest s code regs) (checkOf (codeOf code (s .registers))) e in
     let last : Checked = unless (eqb (length regs) (s .width * s .registers)) 3 in
@@ -130,7 +124,7 @@ right-length s code regs e =
 
 module _ (s : Settings) (code : List ℕ) (l : Launchable s code) where
   -- the launched lanes are no more than the widest wave has
-  lanes-most : s .lanes ≤ widest
+  pub lanes-most : s .lanes ≤ widest
   lanes-most =
       let w : s .lanes ≤ s .width = leb-true (s .lanes) (s .width) (l .few-lanes) in
       ⊎-elim
@@ -142,7 +136,7 @@ module _ (s : Settings) (code : List ℕ) (l : Launchable s code) where
       (or-cases (eqb (s .width) 8 || eqb (s .width) 16) (eqb (s .width) 32) (l .widths))
 
   -- they pass the test with any budget that is allowed and any buffer of the right length
-  passes : (b : ℕ) (regs : List ℕ) → b ≤ mostSteps → length regs ≡ s .width * s .registers → launchTest (budgeted b s) code regs ≡ Fine
+  pub passes : (b : ℕ) (regs : List ℕ) → b ≤ mostSteps → length regs ≡ s .width * s .registers → launchTest (budgeted b s) code regs ≡ Fine
   passes b regs h e =
       rw (
         l .widths,
@@ -161,15 +155,29 @@ module _ (s : Settings) (code : List ℕ) (l : Launchable s code) where
     pub fits : WaveFits code (s .registers) (s .lanes) (m .wave) (m .preds)
     pub long : length (m .regs) ≡ s .width * s .registers
 
-  launch-in-order : (regs device local : List ℕ) → length regs ≡ s .width * s .registers → InOrder (launchMachine s regs device local)
+  pub launch-in-order : (regs device local : List ℕ) → length regs ≡ s .width * s .registers → InOrder (launchMachine s regs device local)
   launch-in-order regs device local e =
       let z : launchedLanes s ≡ s .lanes = min-eq-left lanes-most in
       record { fits = rw z (launch-fits code (s .registers) (s .lanes)); long = e }
 
-  given-in-order : (state : State) (regs device local : List ℕ) → length regs ≡ s .width * s .registers
+  pub given-in-order : (state : State) (regs device local : List ℕ) → length regs ≡ s .width * s .registers
       → fitsTest code (s .registers) (s .lanes) (state .hot) (state .blocks) ≡ true → InOrder (stateMachine state regs device local)
   given-in-order state regs device local e t =
       record { fits = fits-test code (s .registers) (s .lanes) (state .hot) (state .blocks) .0 t .wave; long = e }
+
+  -- the state that holds it fits, and goes on with any budget that is allowed
+  held-fits : (m : Machine) → InOrder m
+      → Fits code (s .registers) (s .lanes) (stateOf (m .wave) (m .preds) .hot) (stateOf (m .wave) (m .preds) .blocks)
+  held-fits m o = state-fits code (s .registers) (s .lanes) (m .wave) (m .preds) lanes-most (o .fits)
+
+  pub in-order-resumes : (c : ℕ) (m : Machine) → InOrder m → c ≤ mostSteps
+      → resumeTest (budgeted c s) (stateOf (m .wave) (m .preds)) code (m .regs) ≡ Fine
+  in-order-resumes c m o h =
+      let x : State = stateOf (m .wave) (m .preds) in
+      then-both (launchTest (budgeted c s) code (m .regs)) (unless (fitsTest code (s .registers) (s .lanes) (x .hot) (x .blocks)) 11)
+      (passes c (m .regs) h (o .long))
+      (true-unless (fitsTest code (s .registers) (s .lanes) (x .hot) (x .blocks)) 11
+      (fits-test code (s .registers) (s .lanes) (x .hot) (x .blocks) .1 (held-fits m o)))
 
   module _ (carrying : OfCarrying) where
     -- and stays so
@@ -183,20 +191,12 @@ module _ (s : Settings) (code : List ℕ) (l : Launchable s code) where
     -- THE STATE that a run answers fits
     pub returned-fits : (b : ℕ) (m : Machine) → InOrder m
         → Fits code (s .registers) (s .lanes) (ending (runOf s code b m) .state .hot) (ending (runOf s code b m) .state .blocks)
-    returned-fits b m o =
-        let r : Machine = runOf s code b m .end in
-        state-fits code (s .registers) (s .lanes) (r .wave) (r .preds) lanes-most (run-in-order b m o .fits)
+    returned-fits b m o = held-fits (runOf s code b m .end) (run-in-order b m o)
 
     -- so that it goes on, with any budget that is allowed
     goes-on-from : (b c : ℕ) (m : Machine) → InOrder m → c ≤ mostSteps
         → resumeTest (budgeted c s) (ending (runOf s code b m) .state) code (ending (runOf s code b m) .regs) ≡ Fine
-    goes-on-from b c m o h =
-        let x : Answered = ending (runOf s code b m) in
-        then-both (launchTest (budgeted c s) code (x .regs))
-        (unless (fitsTest code (s .registers) (s .lanes) (x .state .hot) (x .state .blocks)) 11)
-        (passes c (x .regs) h (run-in-order b m o .long))
-        (true-unless (fitsTest code (s .registers) (s .lanes) (x .state .hot) (x .state .blocks)) 11
-        (fits-test code (s .registers) (s .lanes) (x .state .hot) (x .state .blocks) .1 (returned-fits b m o)))
+    goes-on-from b c m o h = in-order-resumes c (runOf s code b m .end) (run-in-order b m o) h
 
 -- ---- the answers, once the tests are passed
 module _ (s : Settings) (code regs device local : List ℕ) where
@@ -244,7 +244,7 @@ module _ (carrying : OfCarrying) (s : Settings) (code regs device local : List �
       most)
 
 -- ---- a run does not look at the settings' budget
-run-budgeted : (a b : ℕ) (s : Settings) (code : List ℕ) (k : ℕ) (m : Machine) → runOf (budgeted a s) code k m ≡ runOf (budgeted b s) code k m
+pub run-budgeted : (a b : ℕ) (s : Settings) (code : List ℕ) (k : ℕ) (m : Machine) → runOf (budgeted a s) code k m ≡ runOf (budgeted b s) code k m
 unfolding runOf stepOf
 run-budgeted a b s code zero m = refl
 run-budgeted a b s code (suc k) m =
@@ -252,19 +252,12 @@ run-budgeted a b s code (suc k) m =
     (run-budgeted a b s code k (stepAt s code m .end))
 
 -- the machine that a state is made from is the one that it holds
-state-machine : (m : Machine) → length (m .wave .path) ≤ nesting
+pub state-machine : (m : Machine) → length (m .wave .path) ≤ nesting
     → stateMachine (stateOf (m .wave) (m .preds)) (m .regs) (m .memories .device) (m .memories .local) ≡ m
 state-machine m h =
     ap (λ (w : Wave). record { wave = w; preds = m .preds; regs = m .regs; memories = m .memories }) (wave-in (m .wave) (m .preds) h)
 
--- ---- STEPS ADD: n steps were made before
-abbrev pub added : ℕ → Answered → Answered
-added n x = record { outcome = x .outcome; steps = n + x .steps; state = x .state; regs = x .regs; memories = x .memories }
-
--- going on from what was answered, with a budget of b
-abbrev pub resumedWith : ℕ → Settings → List ℕ → Answered → Answered
-resumedWith b s code x = resumeOf (budgeted b s) (x .state) code (x .regs) (x .memories .device) (x .memories .local)
-
+-- ---- STEPS ADD
 module _ (carrying : OfCarrying) (s : Settings) (code : List ℕ) (l : Launchable s code) (a b : ℕ) (most : a + b ≤ mostSteps) (m : Machine)
     (o : InOrder s code l m) where
   abbrev earlier : Ran

@@ -1,0 +1,157 @@
+-- At every point of every history the open blocks of the state that was answered are those read from its steps, and every block that was
+-- closed handed back its lanes. Each call goes on from a machine that the state holds, so that the runs of the calls follow one another.
+use mathlib.Core.Path.{_≡_, refl, sym, ap, _∙_, subst}
+use mathlib.Core.List.{List, [], _∷_}
+use Prim.Native.Nat.{ℕ, _≤_}
+use borrow.Author.Tests.{leb-true}
+use lib.ListN.{length}
+use Rattle.blocks.specs.declared.structure.Checked.{Checked}
+use Rattle.blocks.specs.declared.structure.Checked.the-variants.{Fine}
+use Rattle.wave.specs.declared.state.Block.{Block}
+use Rattle.wave.specs.declared.state.State.{State}
+use Rattle.wave.specs.Wave.{Wave, stateOf, waveIn}
+use Rattle.wave.specs.FitsTest.{fitsTest}
+use Rattle.wave.proofs.View.{wave-in}
+use Rattle.wave.proofs.Stays.{path-room}
+use Rattle.compute.specs.Memory.{Memories}
+use Rattle.replay.specs.declared.settings.Settings.{Settings}
+use Rattle.replay.specs.declared.answers.Outcome.the-variants.{Ended}
+use Rattle.replay.specs.Machine.{Machine}
+use Rattle.replay.specs.Run.{runOf}
+use Rattle.replay.specs.Replay.{mostWords, mostSteps, unless, launchTest, resumeTest, Answered, ending, launchMachine, stateMachine}
+use Rattle.replay.specs.Calls.{budgeted, resumedWith}
+use Rattle.replay.proofs.Keeping.{OfCarrying, run-keeps, run-long}
+use Rattle.replay.proofs.Returns.{
+  Launchable,
+  launchable,
+  right-length,
+  then-first,
+  then-second,
+  unless-true,
+  InOrder,
+  launch-in-order,
+  given-in-order,
+  in-order-resumes,
+  launched,
+  resumed,
+  state-machine,
+}
+use Rattle.demands.specs.Steps.{Step, stepsOf}
+use Rattle.demands.specs.Path.{pathFrom}
+use Rattle.demands.specs.History.{Point, further, furtherBy, afterLaunch, afterResume}
+use Rattle.demands.specs.Closing.{EachHandsBack}
+use Rattle.demands.proofs.Following.{Told, told-none, run-told}
+
+-- each budget is allowed
+abbrev pub Allowed : List ℕ → Type 0
+Allowed [] = Unit
+Allowed (b ∷ bs) = (b ≤ mostSteps) × Allowed bs
+
+-- what the steps tell of the state that was answered, with bs the blocks that were open before them
+pub record Tells (bs : List Block) (p : Point) : Type 0 where
+  -- its open blocks are the path read from the steps
+  pub path : waveIn (p .answer .state) .path ≡ pathFrom bs (p .steps)
+  -- and whenever a step closed a block, the active lanes after it were the entered less the left
+  pub back : EachHandsBack bs (waveIn (p .answer .state) .active) (p .steps)
+
+module _ (carrying : OfCarrying) (s : Settings) (code : List ℕ) (l : Launchable s code) (bs : List Block) where
+  -- at a point of a history the answer holds a machine that is in order, of which the steps tell
+  record Holds (p : Point) : Type 0 where
+    machine : Machine
+    state : p .answer .state ≡ stateOf (machine .wave) (machine .preds)
+    regs : p .answer .regs ≡ machine .regs
+    memories : p .answer .memories ≡ machine .memories
+    order : InOrder s code l machine
+    told : Told bs (p .steps) (machine .wave)
+
+  -- a run with a budget from such a machine
+  run-holds : (b : ℕ) (m : Machine) (es : List Step) → InOrder s code l m → Told bs es (m .wave)
+      → Holds (record { answer = ending (runOf (budgeted b s) code b m); steps = stepsOf (budgeted b s) code b m es })
+  run-holds b m es o r =
+      let short : length code ≤ mostWords = leb-true (length code) mostWords (l .short) in
+      record {
+        machine = runOf (budgeted b s) code b m .end;
+        state = refl;
+        regs = refl;
+        memories = refl;
+        order =
+            record {
+              fits = run-keeps code (s .registers) (l .checked) short carrying (budgeted b s) (s .lanes) b m (o .fits);
+              long = run-long carrying (budgeted b s) code b m ∙ o .long;
+            };
+        told = run-told code (s .registers) (l .checked) short (budgeted b s) (s .lanes) bs carrying b m es (o .fits) r;
+      }
+
+  roomy : (m : Machine) → InOrder s code l m → stateMachine (stateOf (m .wave) (m .preds)) (m .regs) (m .memories .device) (m .memories .local) ≡ m
+  roomy m o = state-machine m (path-room code (s .registers) (s .lanes) (m .wave) (m .preds) (o .fits))
+
+  -- what is answered with the parts of a machine
+  abbrev from-parts : ℕ → List Step → State → List ℕ → Memories → Point
+  from-parts b es state regs y =
+      record {
+        answer = resumedWith b s code (record { outcome = Ended; steps = 0; state = state; regs = regs; memories = y });
+        steps = stepsOf (budgeted b s) code b (stateMachine state regs (y .device) (y .local)) es;
+      }
+
+  further-holds : (b : ℕ) (p : Point) → b ≤ mostSteps → Holds p → Holds (further s code b p)
+  further-holds b p h d =
+      let m : Machine = d .machine in
+      let o = d .order in
+      subst Holds
+      (sym
+      (ap (λ (x : State). from-parts b (p .steps) x (p .answer .regs) (p .answer .memories)) (d .state)
+      ∙ ap (λ (x : List ℕ). from-parts b (p .steps) (stateOf (m .wave) (m .preds)) x (p .answer .memories)) (d .regs)
+      ∙ ap (λ (x : Memories). from-parts b (p .steps) (stateOf (m .wave) (m .preds)) (m .regs) x) (d .memories)
+      ∙ ap
+      (λ (x : Answered). record { answer = x; steps = stepsOf (budgeted b s) code b (stateMachine (stateOf (m .wave) (m .preds)) (m .regs) (m .memories .device) (m .memories .local)) (p .steps) })
+      (resumed (budgeted b s) code (m .regs) (m .memories .device) (m .memories .local) (stateOf (m .wave) (m .preds)) (in-order-resumes s code l b m o h))
+      ∙ ap (λ (x : Machine). record { answer = ending (runOf (budgeted b s) code b x); steps = stepsOf (budgeted b s) code b x (p .steps) }) (roomy m o)))
+      (run-holds b m (p .steps) o (d .told))
+
+  history-holds : (budgets : List ℕ) (p : Point) → Allowed budgets → Holds p → Holds (furtherBy s code budgets p)
+  history-holds [] p a d = d
+  history-holds (b ∷ budgets) p a d = further-holds b (furtherBy s code budgets p) (a .0) (history-holds budgets p (a .1) d)
+
+  -- what the steps tell of the state
+  wave-is : (p : Point) (d : Holds p) → waveIn (p .answer .state) ≡ d .machine .wave
+  wave-is p d =
+      let m : Machine = d .machine in
+      ap waveIn (d .state) ∙ wave-in (m .wave) (m .preds) (path-room code (s .registers) (s .lanes) (m .wave) (m .preds) (d .order .fits))
+
+  tells : (p : Point) → Holds p → Tells bs p
+  tells p d =
+      record {
+        path = ap (λ (w : Wave). w .path) (wave-is p d) ∙ sym (d .told .reads .path);
+        back = subst (λ (w : Wave). EachHandsBack bs (w .active) (p .steps)) (sym (wave-is p d)) (d .told .handed);
+      }
+
+module _ (carrying : OfCarrying) (s : Settings) (code regs device local : List ℕ) (budgets : List ℕ) (allowed : Allowed budgets) where
+  -- FROM A LAUNCH: from the steps alone
+  pub launch-tells : launchTest s code regs ≡ Fine → Tells [] (furtherBy s code budgets (afterLaunch s code regs device local))
+  launch-tells e =
+      let l = launchable s (s .budget) code regs e in
+      let m : Machine = launchMachine s regs device local in
+      let start : Holds carrying s code l [] (afterLaunch s code regs device local) =
+      subst (λ (x : Answered). Holds carrying s code l [] (record { answer = x; steps = stepsOf s code (s .budget) m [] }))
+      (sym (launched s code regs device local e))
+      (run-holds carrying s code l [] (s .budget) m [] (launch-in-order s code l regs device local (right-length s code regs e)) (told-none (m .wave))) in
+      tells carrying s code l [] (furtherBy s code budgets (afterLaunch s code regs device local))
+      (history-holds carrying s code l [] budgets (afterLaunch s code regs device local) allowed start)
+
+  -- FROM A HANDED-IN STATE: what went before is read from that state's sets
+  pub resume-tells : (state : State) → resumeTest s state code regs ≡ Fine
+      → Tells (waveIn state .path) (furtherBy s code budgets (afterResume s state code regs device local))
+  resume-tells state e =
+      let fitting : Checked = unless (fitsTest code (s .registers) (s .lanes) (state .hot) (state .blocks)) 11 in
+      let first-tests : launchTest s code regs ≡ Fine = then-first (launchTest s code regs) fitting e in
+      let l = launchable s (s .budget) code regs first-tests in
+      let m : Machine = stateMachine state regs device local in
+      let bs : List Block = waveIn state .path in
+      let o : InOrder s code l m =
+      given-in-order s code l state regs device local (right-length s code regs first-tests)
+      (unless-true (fitsTest code (s .registers) (s .lanes) (state .hot) (state .blocks)) 11 (then-second (launchTest s code regs) fitting e)) in
+      let start : Holds carrying s code l bs (afterResume s state code regs device local) =
+      subst (λ (x : Answered). Holds carrying s code l bs (record { answer = x; steps = stepsOf s code (s .budget) m [] }))
+      (sym (resumed s code regs device local state e)) (run-holds carrying s code l bs (s .budget) m [] o (told-none (m .wave))) in
+      tells carrying s code l bs (furtherBy s code budgets (afterResume s state code regs device local))
+      (history-holds carrying s code l bs budgets (afterResume s state code regs device local) allowed start)

@@ -1,0 +1,4 @@
+pub mod Steps
+pub mod Path
+pub mod Closing
+pub mod History
