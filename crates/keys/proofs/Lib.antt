@@ -1,0 +1,4 @@
+pub mod Behind
+pub mod Kinding
+pub mod Paths
+pub mod Bodies
