@@ -1,14 +1,13 @@
 -- Numbers that are put one behind another stand side by side: a buffer written to in pieces was written to once.
-use mathlib.Core.Path.{_≡_, refl, sym, ap, ap₂, _∙_}
-use Prim.Native.Nat.{ℕ, zero, suc, _+_, _*_, _≤_, _<_}
+use mathlib.Core.Path.{_≡_, sym, ap, ap₂, _∙_}
+use Prim.Native.Nat.{ℕ, _+_, _*_, _≤_, _<_}
 use mathlib.Core.List.{List, [], _∷_, _++_, append-nil, flatMap}
 use native.Mathlib.Omega.{arith}
-use native.Mathlib.Numerals.{add-one}
-use lib.ListN.{length, getD, take, drop, length-append}
+use lib.ListN.{length, getD, take, length-append}
 use lib.Seq.{take-add, take-all, drop-cons, length-take-le}
-use Rattle.numbers.specs.Numbers.{bytesOf, bytesOfAll, bound, Small}
+use Rattle.numbers.specs.Numbers.{bytesOf, bytesOfAll}
 use Rattle.numbers.specs.Placed.{placed}
-use Rattle.numbers.proofs.Numerals.{length-bytesOf, length-bytesOfAll, bytes-append, small-nil, small-cons, small-tail}
+use Rattle.numbers.proofs.Numerals.{length-bytesOfAll, bytes-append}
 use Rattle.numbers.proofs.Placing.{placed-append, placed-nil}
 use Rattle.keys.specs.Putting.{After, after, afterNumbers}
 
@@ -60,8 +59,3 @@ put-none xs o p = sym (placed-nil o p)
 
 pub put-all : (xs o o₁ : List ℕ) (p k : ℕ) → length xs ≤ k → o₁ ≡ placed o p (bytesOfAll (take k xs)) → o₁ ≡ placed o p (bytesOfAll xs)
 put-all xs o o₁ p k h e = e ∙ ap (λ (ns : List ℕ). placed o p (bytesOfAll ns)) (take-all k xs h)
-
-pub small-take : (n : ℕ) (xs : List ℕ) → Small xs → Small (take n xs)
-small-take zero xs h = small-nil
-small-take (suc n) [] h = small-nil
-small-take (suc n) (x ∷ xs) h = small-cons x (take n xs) (h .below 0) (small-take n xs (small-tail h))

@@ -1,11 +1,10 @@
 -- The body of parts: put piece by piece, read again from the buffer it was put into, and copied from there.
 use mathlib.Core.Path.{_≡_, refl, sym, ap, ap₂, _∙_}
 use Prim.Native.Nat.{ℕ, _+_, _*_, _≤_, _<_}
-use mathlib.Core.Bool.{Bool, true, false, cond, _&&_, and-true}
-use mathlib.Core.List.{List, [], _∷_, _++_, flatMap}
+use mathlib.Core.Bool.{false, and-true}
+use mathlib.Core.List.{List, _∷_, _++_}
 use native.Mathlib.Omega.{arith}
 use borrow.Author.Tests.{le-leb, lt-leb}
-use lib.Dec.{leb}
 use lib.ListN.{length, take, drop, length-append}
 use lib.Seq.{take-append-seam, length-take-le}
 use Rattle.ground.proofs.Tests.{false-of}
@@ -13,20 +12,21 @@ use Rattle.numbers.specs.Numbers.{bytesOf, bytesOfAll, bound, Small}
 use Rattle.numbers.specs.Placed.{placed}
 use Rattle.numbers.proofs.Numerals.{small-cons, small-append}
 use Rattle.numbers.proofs.Placing.{placed-front}
-use Rattle.key.specs.declared.BodyAnswer.{BodyAnswer}
 use Rattle.key.specs.declared.BodyAnswer.the-variants.{Length}
 use Rattle.key.specs.declared.BodyAnswer.the-variants.{Refused as NoBody}
-use Rattle.key.specs.Body.{Parts, sixOf, numbersOf, bytesOfBody}
-use Rattle.key.specs.Layout.{fitsLayout, mostDepth, sizeAt, partsAt, startsBody, bodyAnswer, notOfLayout}
+use Rattle.key.specs.Body.{Parts, numbersOf, bytesOfBody}
+use Rattle.key.specs.Layout.{fitsLayout, mostDepth, sizeAt, startsBody, bodyAnswer, notOfLayout}
 use Rattle.key.proofs.Starts.{fits-of, of-starts, length-says, refused-says}
 use Rattle.key.proofs.Written.{length-body, parts-back, size-back}
 use Rattle.wave.specs.declared.state.State.{State}
 use Rattle.wave.specs.Layout.{blockNumbers, pathNumbers}
 use Rattle.compute.specs.declared.Faults.{Faults}
+use Rattle.replay.specs.declared.answers.Outcome.{Outcome}
+use Rattle.replay.specs.declared.answers.Replayed.{Replayed}
 use Rattle.keys.specs.declared.answer.KeyAnswer.the-variants.{Wrote, Refused}
-use Rattle.keys.specs.Key.{short, kindsOf, blocksOf, partsOf, Keying, keyed, bodyKey}
+use Rattle.keys.specs.Key.{short, kindsOf, partsOf, keyed, bodyKey, outcomeKey, keyOf}
 use Rattle.keys.specs.Putting.{room, kindsPlace, After, after, afterNumbers, kindNumbers, Put, copied}
-use Rattle.keys.proofs.Behind.{behind, behind-one, small-take}
+use Rattle.keys.proofs.Behind.{behind, behind-one}
 use Rattle.keys.proofs.Kinding.{few-kinds}
 use Rattle.keys.proofs.Paths.{block-numbers, length-blocks}
 
@@ -58,7 +58,8 @@ module _ (kernel : ℕ) (f : Faults) (s : State) (low : s .hot .depth ≤ mostDe
       behind-one kernel (s .hot .place ∷ length (kindsOf f) ∷ (kindNumbers f ++ rest)) o o₁ o₈ 0 4 refl e1 h2
       ∙ ap (λ (ns : List ℕ). placed o 0 (bytesOfAll ns)) numbers-are
 
-  pub put-small : kernel < bound → s .hot .place < bound → Small (kindNumbers f) → s .hot .active < bound → s .hot .halted < bound → Small (s .blocks)
+  pub put-small : kernel < bound → s .hot .place < bound → Small (kindNumbers f) → s .hot .active < bound → s .hot .halted < bound
+      → Small (take (blockNumbers * s .hot .depth) (s .blocks))
       → Small (numbersOf (partsOf kernel f s))
   put-small k p fs a h bs =
       let few = few-kinds f in
@@ -69,12 +70,12 @@ module _ (kernel : ℕ) (f : Faults) (s : State) (low : s .hot .depth ≤ mostDe
       (small-append (kindNumbers f) _ fs
       (small-cons (s .hot .active) _ a
       (small-cons (s .hot .halted) _ h
-      (small-cons (s .hot .depth) _ (omega arith) (small-take (blockNumbers * s .hot .depth) (s .blocks) bs))))))))
+      (small-cons (s .hot .depth) _ (omega arith) bs)))))))
 
-  -- there is room for it
-  pub body-room : length (bytesOfBody (partsOf kernel f s)) ≤ room
-  unfolding partsOf
-  body-room = omega (arith, length-body (partsOf kernel f s), few-kinds f, length-blocks s)
+-- there is room for it
+pub body-room : (kernel : ℕ) (f : Faults) (s : State) → s .hot .depth ≤ mostDepth → length (bytesOfBody (partsOf kernel f s)) ≤ room
+unfolding partsOf
+body-room kernel f s low = omega (arith, length-body (partsOf kernel f s), few-kinds f, length-blocks s)
 
 -- a depth over 32 gives no body
 pub deep-key : (kernel : ℕ) (f : Faults) (s : State) (out : List ℕ) → mostDepth < s .hot .depth → keyed (Refused notOfLayout 0) out ≡ bodyKey (partsOf kernel f s) out
@@ -136,3 +137,22 @@ module _ (p : Parts) (before now : List ℕ) (h : Put p before now) (fit : lengt
   pub copy-put : (out : List ℕ) → copied now out ≡ bodyKey p out
   unfolding copied bodyKey
   copy-put out = rw (starts-fits, front-is, size-is)
+
+-- ---- by the outcome
+
+module _ (kernel : ℕ) (r : Replayed) (out : List ℕ) where
+  pub key-fault : (f : Faults) → r .outcome ≡ Outcome.Fault f → bodyKey (partsOf kernel f (r .state)) out ≡ keyOf kernel r out
+  unfolding keyOf outcomeKey
+  key-fault f e = ap (λ (o : Outcome). outcomeKey kernel o (r .state) out) (sym e)
+
+  pub key-ended : r .outcome ≡ Outcome.Ended → keyed (Refused notOfLayout 0) out ≡ keyOf kernel r out
+  unfolding keyOf outcomeKey
+  key-ended e = ap (λ (o : Outcome). outcomeKey kernel o (r .state) out) (sym e)
+
+  pub key-budget : r .outcome ≡ Outcome.OutOfBudget → keyed (Refused notOfLayout 0) out ≡ keyOf kernel r out
+  unfolding keyOf outcomeKey
+  key-budget e = ap (λ (o : Outcome). outcomeKey kernel o (r .state) out) (sym e)
+
+  pub key-refused : (number place : ℕ) → r .outcome ≡ Outcome.Refused number place → keyed (Refused notOfLayout 0) out ≡ keyOf kernel r out
+  unfolding keyOf outcomeKey
+  key-refused number place e = ap (λ (o : Outcome). outcomeKey kernel o (r .state) out) (sym e)

@@ -13,7 +13,7 @@ use Rattle.numbers.proofs.Numerals.{small-nil, small-cons, small-append}
 use Rattle.numbers.proofs.Placing.{placed-nil}
 use Rattle.key.specs.Body.{Fault as Said, twoOf}
 use Rattle.compute.specs.declared.Faults.{Faults}
-use Rattle.compute.specs.Faulting.{Fault, note, listed}
+use Rattle.compute.specs.Faulting.{Fault, note}
 use Rattle.keys.specs.Key.{faultOf, kindsOf}
 use Rattle.keys.specs.Putting.{After, after, afterNumbers, noted, kindNumbers}
 use Rattle.keys.proofs.Behind.{one-number, behind-one, after-behind}

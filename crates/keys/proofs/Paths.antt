@@ -1,9 +1,9 @@
 -- The open blocks outermost first, six numbers each, are the first numbers of the state's array as they stand.
-use mathlib.Core.Path.{_≡_, refl, sym, ap, ap₂, _∙_}
+use mathlib.Core.Path.{_≡_, refl, sym, ap, _∙_}
 use Prim.Native.Nat.{ℕ, zero, suc, _+_, _*_, _≤_}
-use mathlib.Core.List.{List, [], _∷_, _++_, append-assoc, append-nil, map, map-append, flatMap, reverse, reverse-cons}
+use mathlib.Core.List.{List, [], _∷_, _++_, append-assoc, map, map-append, flatMap, reverse, reverse-cons}
 use native.Mathlib.Omega.{arith}
-use lib.ListN.{length, take, drop, length-map, length-reverse}
+use lib.ListN.{length, take, length-map, length-reverse}
 use lib.Seq.{take-add}
 use Rattle.key.specs.Body.{Block, sixOf}
 use Rattle.wave.specs.declared.state.Block.{Block as OpenBlock}

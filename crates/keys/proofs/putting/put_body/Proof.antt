@@ -1,89 +1,109 @@
+-- The numbers one behind another are those of the parts.
+use mathlib.Core.Path.{_≡_, sym, ap, _∙_}
+use native.Mathlib.Omega.{arith}
+use lib.ListN.{length}
+use lib.Seq.{length-take-le}
+use Prim.Native.Nat.{_*_}
+use Rattle.numbers.specs.Placed.{placed}
+use Rattle.key.specs.Body.{bytesOfBody}
+use Rattle.numbers.proofs.Placing.{length-placed}
+use Rattle.keys.specs.Key.{partsOf}
+use Rattle.keys.proofs.Kinding.{kinds-place}
+use Rattle.keys.proofs.Bodies.{put-stands, put-small}
 use borrow.Author.Needs.{needs}
 use Rattle.keys.proofs.putting.put_body.Statement.{statement}
 use Rattle.keys.proofs.putting.put_body.Tie as tie
-use Rattle.keys.proofs.putting.put_body.Reads as reads
-use Rattle.keys.proofs.putting.put_body.Lts as lts
-use Rattle.keys.proofs.putting.count_of.Reads as count-of-reads
-use Rattle.keys.proofs.putting.put_kinds.Reads as put-kinds-reads
-use Rattle.keys.proofs.putting.put_numbers.Reads as put-numbers-reads
-use Rattle.numbers.proofs.put.Reads as put-reads
-use Rattle.wave.proofs.state.whole.Reads as whole-reads
 
--- src/putting.rt:85:5
 whole-requires : tie.Need-whole-requires
 whole-requires c κs = search needs
 
--- src/putting.rt:86:5
 put-requires : tie.Need-put-requires
 put-requires c κs = search needs
 
--- src/putting.rt:87:5
 put-requires-2 : tie.Need-put-requires-2
 put-requires-2 c κs = search needs
 
--- src/putting.rt:88:17
 count-of-requires : tie.Need-count-of-requires
 count-of-requires c κs = search needs
 
--- src/putting.rt:88:5
 put-requires-3 : tie.Need-put-requires-3
 put-requires-3 c κs = search needs
 
--- src/putting.rt:89:9
 put-kinds-requires : tie.Need-put-kinds-requires
 put-kinds-requires c κs = search needs
 
--- src/putting.rt:90:5
 put-requires-4 : tie.Need-put-requires-4
 put-requires-4 c κs = search needs
 
--- src/putting.rt:91:14
 add-put : tie.Need-add-put
-add-put c = ?
+add-put c = omega (arith, kinds-place (c .before .before .before .before .before .before .before .before .before .before .before .before .before .before .before .before .before .before .before .before .before .before .before .before .before .before .before .args .f) _ _ _ _ (c .before .before .before .before .before .before .before .put-kinds .ensures .0))
 
--- src/putting.rt:91:5
 put-requires-5 : tie.Need-put-requires-5
 put-requires-5 c κs = search needs
 
--- src/putting.rt:92:14
 add-put-2 : tie.Need-add-put-2
-add-put-2 c = ?
+add-put-2 c = omega (arith, kinds-place (c .before .before .before .before .before .before .before .before .before .before .before .before .before .before .before .before .before .before .before .before .before .before .before .before .before .before .before .before .before .before .before .args .f) _ _ _ _ (c .before .before .before .before .before .before .before .before .before .before .before .put-kinds .ensures .0))
 
--- src/putting.rt:92:5
 put-requires-6 : tie.Need-put-requires-6
 put-requires-6 c κs = search needs
 
--- src/putting.rt:93:33
 cast-open : tie.Need-cast-open
 cast-open c = search needs
 
--- src/putting.rt:93:16
 mul-open : tie.Need-mul-open
 mul-open c = search needs
 
--- src/putting.rt:94:17
 array-share-prefix-blocks : tie.Need-array-share-prefix-blocks
-array-share-prefix-blocks c = ?
+array-share-prefix-blocks c = omega (arith, c .before .before .before .before .before .before .before .before .before .before .before .before .before .before .before .before .before .before .before .before .before .before .before .before .before .before .before .before .before .before .whole .ensures, c .before .before .before .before .before .before .before .before .before .before .before .before .before .before .before .before .before .before .before .before .before .before .before .before .before .before .before .before .before .before .before .before .before .before .before .pre)
 
--- src/putting.rt:94:17
 slice-aggregate-put-numbers : tie.Need-slice-aggregate-put-numbers
-slice-aggregate-put-numbers c = ?
+slice-aggregate-put-numbers c = sym (length-take-le _ _ (omega (arith, c .before .before .before .before .before .before .before .before .before .before .before .before .before .before .before .before .before .before .before .before .before .before .before .before .before .before .before .before .before .before .before .whole .ensures, c .before .before .before .before .before .before .before .before .before .before .before .before .before .before .before .before .before .before .before .before .before .before .before .before .before .before .before .before .before .before .before .before .before .before .before .before .pre)))
 
--- src/putting.rt:94:34
 add-put-numbers : tie.Need-add-put-numbers
-add-put-numbers c = ?
+add-put-numbers c = omega (arith, kinds-place (c .before .before .before .before .before .before .before .before .before .before .before .before .before .before .before .before .before .before .before .before .before .before .before .before .before .before .before .before .before .before .before .before .before .before .before .before .args .f) _ _ _ _ (c .before .before .before .before .before .before .before .before .before .before .before .before .before .before .before .before .put-kinds .ensures .0))
 
--- src/putting.rt:94:5
 put-numbers-requires : tie.Need-put-numbers-requires
-put-numbers-requires c κs = ?
+put-numbers-requires c κs =
+    let s = c .before .before .before .before .before .before .before .before .before .before .before .before .before .before .before .before .before .before .before .before .before .before .before .before .before .before .before .before .before .before .before .before .before .before .before .before .before .args .state in
+    let low = c .before .before .before .before .before .before .before .before .before .before .before .before .before .before .before .before .before .before .before .before .before .before .before .before .before .before .before .before .before .before .before .before .before .before .before .before .before .pre in
+    let l = length-take-le (6 * s .hot .depth) (s .blocks) (omega (arith, c .before .before .before .before .before .before .before .before .before .before .before .before .before .before .before .before .before .before .before .before .before .before .before .before .before .before .before .before .before .before .before .before .whole .ensures, low)) in
+    omega (arith, l, low, kinds-place (c .before .before .before .before .before .before .before .before .before .before .before .before .before .before .before .before .before .before .before .before .before .before .before .before .before .before .before .before .before .before .before .before .before .before .before .before .before .args .f) _ _ _ _ (c .before .before .before .before .before .before .before .before .before .before .before .before .before .before .before .before .before .put-kinds .ensures .0))
 
--- src/putting.rt:79:1
+-- the body stands
+body-stands : (c : tie.After-slice-known9)
+    → c .before .before .put-numbers .last .1 .1 .0
+    ≡ placed (c .before .before .before .before .before .before .before .before .before .before .before .before .before .before .before .before .before .before .before .before .before .before .before .before .before .before .before .before .before .before .before .before .before .before .before .before .before .before .before .before .args .out .now) 0 (bytesOfBody (partsOf (c .before .before .before .before .before .before .before .before .before .before .before .before .before .before .before .before .before .before .before .before .before .before .before .before .before .before .before .before .before .before .before .before .before .before .before .before .before .before .before .before .args .kernel) (c .before .before .before .before .before .before .before .before .before .before .before .before .before .before .before .before .before .before .before .before .before .before .before .before .before .before .before .before .before .before .before .before .before .before .before .before .before .before .before .before .args .f) (c .before .before .before .before .before .before .before .before .before .before .before .before .before .before .before .before .before .before .before .before .before .before .before .before .before .before .before .before .before .before .before .before .before .before .before .before .before .before .before .before .args .state)))
+body-stands c =
+    let a = c .before .before .before .before .before .before .before .before .before .before .before .before .before .before .before .before .before .before .before .before .before .before .before .before .before .before .before .before .before .before .before .before .before .before .before .before .before .before .before .before .args in
+    put-stands (a .kernel) (a .f) (a .state) (c .before .before .before .before .before .before .before .before .before .before .before .before .before .before .before .before .before .before .before .before .before .before .before .before .before .before .before .before .before .before .before .before .before .before .before .before .before .before .before .before .pre) (c .before .before .before .before .before .before .before .before .before .before .before .before .before .before .before .before .before .before .before .before .before .before .before .before .before .before .before .before .before .before .before .before .before .before .before .whole .ensures) _ _ _ _ _ _ _ _ _ _ _
+    (c .before .before .before .before .before .before .before .before .before .before .before .before .before .before .before .before .before .before .before .before .before .before .before .before .before .before .before .before .before .before .before .before .before .put .ensures)
+    (c .before .before .before .before .before .before .before .before .before .before .before .before .before .before .before .before .before .before .before .before .before .before .before .before .before .before .before .before .before .put2 .ensures)
+    (c .before .before .before .before .before .before .before .before .before .before .before .before .before .before .before .before .before .before .before .before .before .before .before .before .before .count-of .ensures)
+    (c .before .before .before .before .before .before .before .before .before .before .before .before .before .before .before .before .before .before .before .before .before .before .before .before .put3 .ensures)
+    (c .before .before .before .before .before .before .before .before .before .before .before .before .before .before .before .before .before .before .before .before .put-kinds .ensures .0)
+    (c .before .before .before .before .before .before .before .before .before .before .before .before .before .before .before .before .put4 .ensures)
+    (c .before .before .before .before .before .before .before .before .before .before .before .before .put5 .ensures)
+    (c .before .before .before .before .before .before .before .before .put6 .ensures)
+    (c .before .before .put-numbers .ensures .0)
+
 same-length : tie.Need-same-length
-same-length c = ?
+same-length c = ap length (body-stands c) ∙ length-placed _ _ _
 
--- src/putting.rt:79:1
 returns : tie.Need-returns
-returns c = ?
+returns c =
+    let a = c .before .before .before .before .before .before .before .before .before .before .before .before .before .before .before .before .before .before .before .before .before .before .before .before .before .before .before .before .before .before .before .before .before .before .before .before .before .before .before .before .args in
+    let known = c .before .before .before .before .before .struct-known .given in
+    record {
+      small =
+          put-small (a .kernel) (a .f) (a .state) (c .before .before .before .before .before .before .before .before .before .before .before .before .before .before .before .before .before .before .before .before .before .before .before .before .before .before .before .before .before .before .before .before .before .before .before .before .before .before .before .before .pre) (c .before .before .before .before .before .before .before .before .before .before .before .before .before .before .before .before .before .before .before .before .before .before .before .before .before .before .before .before .before .before .before .before .before .before .before .whole .ensures)
+          (omega (arith, c .before .before .before .before .before .before .before .before .before .before .before .before .before .before .before .before .before .before .before .before .before .before .before .before .before .before .before .before .before .before .before .before .before .before .before .before .before .before .before .before .good .0))
+          (omega (arith, known .0))
+          (c .before .before .before .before .before .before .before .before .before .before .before .before .before .before .before .before .before .before .before .before .put-kinds .ensures .1)
+          (omega (arith, known .1 .0))
+          (omega (arith, known .1 .1 .0))
+          (c .before .before .put-numbers .ensures .1);
+      stands = body-stands c;
+    }
 
 pub put-body-spec : {M : Type 1} → statement M
 put-body-spec =

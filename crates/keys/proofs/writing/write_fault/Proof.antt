@@ -1,38 +1,32 @@
+-- A depth over 32 gives no body; otherwise the body is put where there is room for it, and copied if it is of the layout.
+use mathlib.Core.Path.{_∙_}
+use native.Mathlib.Omega.{arith}
+use Rattle.keys.proofs.Bodies.{deep-key, body-room, copy-put}
 use borrow.Author.Needs.{needs}
 use Rattle.keys.proofs.writing.write_fault.Statement.{statement}
 use Rattle.keys.proofs.writing.write_fault.Tie as tie
-use Rattle.keys.proofs.writing.write_fault.Reads as reads
-use Rattle.keys.proofs.writing.write_fault.Lts as lts
-use Rattle.keys.proofs.putting.put_body.Reads as put-body-reads
-use Rattle.keys.proofs.writing.copy_body.Reads as copy-body-reads
 
--- src/writing.rt:40:9
 returns : tie.Need-returns
-returns c = ?
+returns c = deep-key _ _ _ _ (c .if1 .taken)
 
--- src/writing.rt:43:32
 slice-aggregate-put-body : tie.Need-slice-aggregate-put-body
 slice-aggregate-put-body c = search needs
 
--- src/writing.rt:43:5
 put-body-requires : tie.Need-put-body-requires
 put-body-requires c κs = search needs
 
--- src/writing.rt:44:15
 slice-aggregate-copy-body : tie.Need-slice-aggregate-copy-body
 slice-aggregate-copy-body c = search needs
 
--- src/writing.rt:44:5
 copy-body-requires : tie.Need-copy-body-requires
 copy-body-requires c κs = search needs
 
--- src/writing.rt:36:1
 same-length : tie.Need-same-length
 same-length c = search needs
 
--- src/writing.rt:36:1
 returns-2 : tie.Need-returns-2
-returns-2 c = ?
+returns-2 c =
+    c .before .before .copy-body .ensures ∙ copy-put _ _ _ (c .before .before .before .before .before .before .put-body .ensures) (body-room _ _ _ (omega (arith, c .before .before .before .before .before .before .before .before .if1 .left))) _
 
 pub write-fault-spec : {M : Type 1} → statement M
 write-fault-spec =
