@@ -1,0 +1,158 @@
+-- The body of parts: put piece by piece, read again from the buffer it was put into, and copied from there.
+use mathlib.Core.Path.{_≡_, refl, sym, ap, ap₂, _∙_}
+use Prim.Native.Nat.{ℕ, _+_, _*_, _≤_, _<_}
+use mathlib.Core.Bool.{false, and-true}
+use mathlib.Core.List.{List, _∷_, _++_}
+use native.Mathlib.Omega.{arith}
+use borrow.Author.Tests.{le-leb, lt-leb}
+use lib.ListN.{length, take, drop, length-append}
+use lib.Seq.{take-append-seam, length-take-le}
+use Rattle.ground.proofs.Tests.{false-of}
+use Rattle.numbers.specs.Numbers.{bytesOf, bytesOfAll, bound, Small}
+use Rattle.numbers.specs.Placed.{placed}
+use Rattle.numbers.proofs.Numerals.{small-cons, small-append}
+use Rattle.numbers.proofs.Placing.{placed-front}
+use Rattle.key.specs.declared.BodyAnswer.the-variants.{Length}
+use Rattle.key.specs.declared.BodyAnswer.the-variants.{Refused as NoBody}
+use Rattle.key.specs.Body.{Parts, numbersOf, bytesOfBody}
+use Rattle.key.specs.Layout.{fitsLayout, mostDepth, sizeAt, startsBody, bodyAnswer, notOfLayout}
+use Rattle.key.proofs.Starts.{fits-of, of-starts, length-says, refused-says}
+use Rattle.key.proofs.Written.{length-body, parts-back, size-back}
+use Rattle.wave.specs.declared.state.State.{State}
+use Rattle.wave.specs.Layout.{blockNumbers, pathNumbers}
+use Rattle.compute.specs.declared.Faults.{Faults}
+use Rattle.replay.specs.declared.answers.Outcome.{Outcome}
+use Rattle.replay.specs.declared.answers.Replayed.{Replayed}
+use Rattle.keys.specs.declared.answer.KeyAnswer.the-variants.{Wrote, Refused}
+use Rattle.keys.specs.Key.{short, kindsOf, partsOf, keyed, bodyKey, outcomeKey, keyOf}
+use Rattle.keys.specs.Putting.{room, kindsPlace, After, after, afterNumbers, kindNumbers, Put, copied}
+use Rattle.keys.proofs.Behind.{behind, behind-one}
+use Rattle.keys.proofs.Kinding.{few-kinds}
+use Rattle.keys.proofs.Paths.{block-numbers, length-blocks}
+
+-- ---- put piece by piece
+
+module _ (kernel : ℕ) (f : Faults) (s : State) (low : s .hot .depth ≤ mostDepth) (long : length (s .blocks) ≡ pathNumbers) where
+  -- the numbers as the code puts them
+  numbers-are : kernel ∷ s .hot .place ∷ length (kindsOf f) ∷ (kindNumbers f ++ (s .hot .active ∷ s .hot .halted ∷ s .hot .depth ∷ take (blockNumbers * s .hot .depth) (s .blocks)))
+      ≡ numbersOf (partsOf kernel f s)
+  unfolding numbersOf partsOf kindNumbers
+  numbers-are = rw (length-blocks s, block-numbers s (omega arith))
+
+  pub put-stands : (o o₁ o₂ o₃ o₄ o₅ o₆ o₇ o₈ : List ℕ) (count at : ℕ) → o₁ ≡ placed o 0 (bytesOf kernel) → o₂ ≡ placed o₁ 4 (bytesOf (s .hot .place))
+      → count ≡ length (kindsOf f) → o₃ ≡ placed o₂ 8 (bytesOf count) → after at o₄ ≡ afterNumbers (kindNumbers f) kindsPlace o₃
+      → o₅ ≡ placed o₄ at (bytesOf (s .hot .active)) → o₆ ≡ placed o₅ (at + 4) (bytesOf (s .hot .halted)) → o₇ ≡ placed o₆ (at + 8) (bytesOf (s .hot .depth))
+      → o₈ ≡ placed o₇ (at + 12) (bytesOfAll (take (blockNumbers * s .hot .depth) (s .blocks)))
+      → o₈ ≡ placed o 0 (bytesOfBody (partsOf kernel f s))
+  unfolding bytesOfBody afterNumbers
+  put-stands o o₁ o₂ o₃ o₄ o₅ o₆ o₇ o₈ count at e1 e2 ec e3 e4 e5 e6 e7 e8 =
+      let sixes = take (blockNumbers * s .hot .depth) (s .blocks) in
+      let p : at ≡ kindsPlace + 4 * length (kindNumbers f) = ap (λ (z : After). z .place) e4 in
+      let h7 = behind-one (s .hot .depth) sixes o₆ o₇ o₈ (at + 8) (at + 12) (omega arith) e7 e8 in
+      let h6 = behind-one (s .hot .halted) (s .hot .depth ∷ sixes) o₅ o₆ o₈ (at + 4) (at + 8) (omega arith) e6 h7 in
+      let h5 = behind-one (s .hot .active) (s .hot .halted ∷ s .hot .depth ∷ sixes) o₄ o₅ o₈ at (at + 4) refl e5 h6 in
+      let rest = s .hot .active ∷ s .hot .halted ∷ s .hot .depth ∷ sixes in
+      let h4 = behind (kindNumbers f) rest o₃ o₄ o₈ kindsPlace at p (ap (λ (z : After). z .out) e4) h5 in
+      let h3 = behind-one (length (kindsOf f)) (kindNumbers f ++ rest) o₂ o₃ o₈ 8 12 refl (e3 ∙ ap (λ (n : ℕ). placed o₂ 8 (bytesOf n)) ec) h4 in
+      let h2 = behind-one (s .hot .place) (length (kindsOf f) ∷ (kindNumbers f ++ rest)) o₁ o₂ o₈ 4 8 refl e2 h3 in
+      behind-one kernel (s .hot .place ∷ length (kindsOf f) ∷ (kindNumbers f ++ rest)) o o₁ o₈ 0 4 refl e1 h2
+      ∙ ap (λ (ns : List ℕ). placed o 0 (bytesOfAll ns)) numbers-are
+
+  pub put-small : kernel < bound → s .hot .place < bound → Small (kindNumbers f) → s .hot .active < bound → s .hot .halted < bound
+      → Small (take (blockNumbers * s .hot .depth) (s .blocks))
+      → Small (numbersOf (partsOf kernel f s))
+  put-small k p fs a h bs =
+      let few = few-kinds f in
+      rw (← numbers-are)
+      (small-cons kernel _ k
+      (small-cons (s .hot .place) _ p
+      (small-cons (length (kindsOf f)) _ (omega arith)
+      (small-append (kindNumbers f) _ fs
+      (small-cons (s .hot .active) _ a
+      (small-cons (s .hot .halted) _ h
+      (small-cons (s .hot .depth) _ (omega arith) bs)))))))
+
+-- there is room for it
+pub body-room : (kernel : ℕ) (f : Faults) (s : State) → s .hot .depth ≤ mostDepth → length (bytesOfBody (partsOf kernel f s)) ≤ room
+unfolding partsOf
+body-room kernel f s low = omega (arith, length-body (partsOf kernel f s), few-kinds f, length-blocks s)
+
+-- a depth over 32 gives no body
+pub deep-key : (kernel : ℕ) (f : Faults) (s : State) (out : List ℕ) → mostDepth < s .hot .depth → keyed (Refused notOfLayout 0) out ≡ bodyKey (partsOf kernel f s) out
+unfolding bodyKey partsOf
+deep-key kernel f s out h =
+    let p = partsOf kernel f s in
+    let n : fitsLayout p ≡ false = false-of (fitsLayout p) (λ e. let d = fits-of p e .depth in let l = length-blocks s in omega arith) in
+    simp n
+
+-- ---- copied
+
+-- the body is whole
+pub copy-long : (s : List ℕ) (k : ℕ) → Length k ≡ bodyAnswer s 0 → k ≡ length (take k s)
+copy-long s k e =
+    let z = length-says s 0 k e in
+    let size : k ≡ sizeAt s = z .1 in
+    let r = z .0 .room in
+    sym (length-take-le k s (omega arith))
+
+module _ (s out : List ℕ) where
+  pub copy-none : (n q : ℕ) → NoBody n q ≡ bodyAnswer s 0 → keyed (Refused notOfLayout 0) out ≡ copied s out
+  unfolding copied
+  copy-none n q e = simp (refused-says s 0 n q e)
+
+  pub copy-short : (k : ℕ) → Length k ≡ bodyAnswer s 0 → length out < k → keyed (Refused short 0) out ≡ copied s out
+  unfolding copied
+  copy-short k e h =
+      let z = length-says s 0 k e in
+      let size : k ≡ sizeAt s = z .1 in
+      simp (of-starts s (z .0), lt-leb (sizeAt s) (length out) (omega arith))
+
+  pub copy-so : (k : ℕ) (now : List ℕ) → Length k ≡ bodyAnswer s 0 → k ≤ length out → now ≡ placed out 0 (take k s) → keyed (Wrote k) now ≡ copied s out
+  unfolding copied
+  copy-so k now e h p =
+      let z = length-says s 0 k e in
+      let size : k ≡ sizeAt s = z .1 in
+      simp (of-starts s (z .0), le-leb (sizeAt s) (length out) (omega arith)) (rw (p, size))
+
+-- ---- what was put is what is copied
+
+module _ (p : Parts) (before now : List ℕ) (h : Put p before now) (fit : length (bytesOfBody p) ≤ length before) where
+  stands : now ≡ bytesOfBody p ++ drop (length (bytesOfBody p)) before
+  stands = h .stands ∙ placed-front before (bytesOfBody p) fit
+
+  starts-fits : startsBody now ≡ fitsLayout p
+  unfolding startsBody
+  starts-fits =
+      let t = drop (length (bytesOfBody p)) before in
+      let l = length-append (bytesOfBody p) t in
+      rw (stands, parts-back t p (h .small), size-back t p (h .small))
+      (simp (le-leb (length (bytesOfBody p)) (length (bytesOfBody p ++ t)) (omega arith), and-true))
+
+  size-is : sizeAt now ≡ length (bytesOfBody p)
+  size-is = ap sizeAt stands ∙ size-back (drop (length (bytesOfBody p)) before) p (h .small)
+
+  front-is : take (sizeAt now) now ≡ bytesOfBody p
+  front-is = ap₂ take size-is stands ∙ take-append-seam (bytesOfBody p) (drop (length (bytesOfBody p)) before)
+
+  pub copy-put : (out : List ℕ) → copied now out ≡ bodyKey p out
+  unfolding copied bodyKey
+  copy-put out = rw (starts-fits, front-is, size-is)
+
+-- ---- by the outcome
+
+module _ (kernel : ℕ) (r : Replayed) (out : List ℕ) where
+  pub key-fault : (f : Faults) → r .outcome ≡ Outcome.Fault f → bodyKey (partsOf kernel f (r .state)) out ≡ keyOf kernel r out
+  unfolding keyOf outcomeKey
+  key-fault f e = ap (λ (o : Outcome). outcomeKey kernel o (r .state) out) (sym e)
+
+  pub key-ended : r .outcome ≡ Outcome.Ended → keyed (Refused notOfLayout 0) out ≡ keyOf kernel r out
+  unfolding keyOf outcomeKey
+  key-ended e = ap (λ (o : Outcome). outcomeKey kernel o (r .state) out) (sym e)
+
+  pub key-budget : r .outcome ≡ Outcome.OutOfBudget → keyed (Refused notOfLayout 0) out ≡ keyOf kernel r out
+  unfolding keyOf outcomeKey
+  key-budget e = ap (λ (o : Outcome). outcomeKey kernel o (r .state) out) (sym e)
+
+  pub key-refused : (number place : ℕ) → r .outcome ≡ Outcome.Refused number place → keyed (Refused notOfLayout 0) out ≡ keyOf kernel r out
+  unfolding keyOf outcomeKey
+  key-refused number place e = ap (λ (o : Outcome). outcomeKey kernel o (r .state) out) (sym e)

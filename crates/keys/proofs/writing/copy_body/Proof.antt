@@ -1,0 +1,47 @@
+-- By what the length's test answers, and then by the room.
+use mathlib.Core.Path.{sym, _∙_}
+use Rattle.keys.proofs.Bodies.{copy-none, copy-short, copy-long, copy-so}
+use borrow.Author.Needs.{needs}
+use Rattle.keys.proofs.writing.copy_body.Statement.{statement}
+use Rattle.keys.proofs.writing.copy_body.Tie as tie
+
+body-length-requires : tie.Need-body-length-requires
+body-length-requires c κs = search needs
+
+enum-known-size : tie.Need-enum-known-size
+enum-known-size c = search needs
+
+enum-told : tie.Need-enum-told
+enum-told c = search needs
+
+returns : tie.Need-returns
+returns c = copy-none _ _ _ _ (sym (c .enum-told .given .1) ∙ c .before .before .body-length .ensures)
+
+returns-2 : tie.Need-returns-2
+returns-2 c = copy-short _ _ _ (sym (c .before .before .size .given .1) ∙ c .before .before .before .before .body-length .ensures) (c .if1 .taken)
+
+slice-aggregate-put-bytes : tie.Need-slice-aggregate-put-bytes
+slice-aggregate-put-bytes c = copy-long _ _ (sym (c .before .before .before .before .size .given .1) ∙ c .before .before .before .before .before .before .body-length .ensures)
+
+put-bytes-requires : tie.Need-put-bytes-requires
+put-bytes-requires c κs = search needs
+
+same-length : tie.Need-same-length
+same-length c = search needs
+
+returns-3 : tie.Need-returns-3
+returns-3 c = copy-so _ _ _ _ (sym (c .before .before .before .before .before .before .before .size .given .1) ∙ c .before .before .before .before .before .before .before .before .before .body-length .ensures) (c .before .before .before .before .before .if1 .left) (c .before .before .put-bytes .ensures)
+
+pub copy-body-spec : {M : Type 1} → statement M
+copy-body-spec =
+    tie.close
+    (tie.spec
+    body-length-requires
+    enum-known-size
+    enum-told
+    returns
+    returns-2
+    slice-aggregate-put-bytes
+    put-bytes-requires
+    same-length
+    returns-3)

@@ -1,0 +1,54 @@
+-- Steps of writing a body: numbers put one behind another, and a body copied from the front of bytes.
+use Prim.Native.Nat.{ℕ, _+_, _*_}
+use mathlib.Core.Path.{_≡_}
+use mathlib.Core.Bool.{cond}
+use mathlib.Core.List.{List, [], _∷_, flatMap}
+use lib.Dec.{eqb, leb}
+use lib.ListN.{length, take}
+use Rattle.numbers.specs.Numbers.{bytesOfAll, Small}
+use Rattle.numbers.specs.Placed.{placed}
+use Rattle.key.specs.Body.{Parts, twoOf, numbersOf, bytesOfBody}
+use Rattle.key.specs.Layout.{sizeAt, startsBody, notOfLayout}
+use Rattle.compute.specs.declared.Faults.{Faults}
+use Rattle.keys.specs.declared.answer.KeyAnswer.the-variants.{Wrote, Refused}
+use Rattle.keys.specs.Key.{short, kindsOf, Keying, keyed}
+
+-- the bytes of five fault kinds and 32 blocks: more than any body of the layout has
+abbrev pub room : ℕ
+room = 832
+
+-- where the fault kinds stand, behind kernel number, place and count
+abbrev pub kindsPlace : ℕ
+kindsPlace = 12
+
+-- a place in a buffer, and what the buffer holds
+pub record After : Type 0 where
+  pub place : ℕ
+  pub out : List ℕ
+
+abbrev pub after : ℕ → List ℕ → After
+after place out = record { place = place; out = out }
+
+-- the place behind numbers that were put from `at` on
+unfoldable pub afterNumbers : List ℕ → ℕ → List ℕ → After
+afterNumbers ns at out = after (at + 4 * length ns) (placed out at (bytesOfAll ns))
+
+-- a kind and its lanes, where there are any
+unfoldable pub noted : ℕ → ℕ → List ℕ
+noted kind lanes = cond (eqb lanes 0) [] (kind ∷ lanes ∷ [])
+
+-- the numbers of the fault kinds
+unfoldable pub kindNumbers : Faults → List ℕ
+kindNumbers f = flatMap twoOf (kindsOf f)
+
+-- the body of p was put at the front of a buffer
+pub record Put (p : Parts) (before now : List ℕ) : Type 0 where
+  pub small : Small (numbersOf p)
+  pub stands : now ≡ placed before 0 (bytesOfBody p)
+
+-- the body that bytes start with, copied where it fits
+unfoldable pub copied : List ℕ → List ℕ → Keying
+copied s out =
+    cond (startsBody s)
+    (cond (leb (sizeAt s) (length out)) (keyed (Wrote (sizeAt s)) (placed out 0 (take (sizeAt s) s))) (keyed (Refused short 0) out))
+    (keyed (Refused notOfLayout 0) out)

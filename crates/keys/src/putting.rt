@@ -1,0 +1,95 @@
+// Putting a body's numbers into a buffer, one behind another.
+use compute::Faults;
+use lanes::Lanes;
+use numbers::put;
+use wave::state::BLOCK_NUMBERS;
+use wave::state::State;
+use wave::state::whole;
+ghost use mathlib.Core.Path.{_≡_};
+ghost use Prim.Native.Nat.{_+_, _*_, _≤_};
+ghost use lib.Dec.{eqb};
+ghost use lib.ListN.{length};
+ghost use mathlib.Core.Bool.{cond};
+ghost use Rattle.numbers.specs.Placed.{placed};
+ghost use Rattle.numbers.specs.Numbers.{Small, bytesOfAll};
+ghost use Rattle.key.specs.Layout.{mostDepth};
+ghost use Rattle.keys.specs.Key.{kindsOf, partsOf};
+ghost use Rattle.keys.specs.Putting.{room, kindsPlace, after, afterNumbers, noted, kindNumbers, Put};
+
+// Where the fault kinds stand, behind kernel number, place and count.
+const KINDS_PLACE: usize = 12;
+
+// How many kinds these lanes make: one, or none where there are no lanes.
+fn kinds_of(lanes: Lanes) -> u32
+    ensures { λ r. ⌜ (r ≡ cond (eqb lanes 0) 0 1) × (r ≤ 1) ⌝ }
+{
+    if lanes == 0 { 0 } else { 1 }
+}
+
+// The count of fault kinds.
+fn count_of(f: Faults) -> u32
+    ensures { λ r. ⌜ r ≡ length (kindsOf f) ⌝ }
+{
+    kinds_of(f.odd)
+        + kinds_of(f.device)
+        + kinds_of(f.local)
+        + kinds_of(f.divisor)
+        + kinds_of(f.barrier)
+}
+
+// Puts a kind and its lanes, where there are any, into `out` from `at` on, and answers the place behind them.
+fn put_kind(kind: u32, lanes: Lanes, at: usize, out: &mut [u8]) -> usize
+    requires { ⌜ at ≤ room ⌝ }
+    ensures { λ r. ⌜ (after r (now (out .exit)) ≡ afterNumbers (noted kind lanes) at (now (out .entry))) × Small (noted kind lanes) ⌝ }
+{
+    if lanes == 0 {
+        return at;
+    }
+    put(out, at, kind);
+    put(out, at + 4, lanes);
+    at + 8
+}
+
+// Puts each kind that has lanes, in rising order, into `out` behind their count, and answers the place behind the last.
+fn put_kinds(f: Faults, out: &mut [u8]) -> usize
+    ensures { λ r. ⌜ (after r (now (out .exit)) ≡ afterNumbers (kindNumbers f) kindsPlace (now (out .entry))) × Small (kindNumbers f) ⌝ }
+{
+    let odd = put_kind(1, f.odd, KINDS_PLACE, out);
+    let device = put_kind(2, f.device, odd, out);
+    let local = put_kind(3, f.local, device, out);
+    let divisor = put_kind(4, f.divisor, local, out);
+    put_kind(5, f.barrier, divisor, out)
+}
+
+// Puts numbers into `out` from `at` on.
+fn put_numbers(numbers: &[u32], at: usize, out: &mut [u8])
+    requires { ⌜ at + 4 * length (now numbers) ≤ room ⌝ }
+    ensures { λ _. ⌜ (now (out .exit) ≡ placed (now (out .entry)) at (bytesOfAll (now (numbers .entry)))) × Small (now (numbers .entry)) ⌝ }
+{
+    let mut k: usize = 0;
+    let mut q = at;
+    while k < numbers.len() {
+        put(out, q, numbers[k]);
+        q += 4;
+        k += 1;
+    }
+}
+
+// Puts the body of a fault at the front of `out`, as far as it fits.
+pub(crate) fn put_body(kernel: u32, f: Faults, state: State, out: &mut [u8])
+    requires { ⌜ state .hot .depth ≤ mostDepth ⌝ }
+    ensures { λ _. ⌜ Put (partsOf kernel f state) (now (out .entry)) (now (out .exit)) ⌝ }
+{
+    let hot = state.hot;
+    let blocks = state.blocks;
+    whole(&blocks);
+    put(out, 0, kernel);
+    put(out, 4, hot.place);
+    put(out, 8, count_of(f));
+    let at = put_kinds(f, out);
+    put(out, at, hot.active);
+    put(out, at + 4, hot.halted);
+    put(out, at + 8, hot.depth);
+    let open = BLOCK_NUMBERS * (hot.depth as usize);
+    put_numbers(&blocks[..open], at + 12, out);
+}
