@@ -39,7 +39,7 @@ use Rattle.replay.specs.Step.{launchedOf, lanesOf, waveBy, waveAfter, carriedBy
 use Rattle.replay.specs.Run.{Ran, endedOf, stepAt, runOf}
 use Rattle.replay.specs.Replay.{mostWords}
 use Rattle.replay.proofs.Runs.{at-ended, at-budget, at-fault, at-clear}
-use Rattle.replay.proofs.Keeping.{OfCarrying, inside, item-there, step-keeps}
+use Rattle.replay.proofs.Keeping.{inside, item-there, step-keeps}
 use Rattle.demands.specs.Steps.{Step, taken, stepsOf}
 use Rattle.demands.specs.Path.{
   Kind,
@@ -246,25 +246,24 @@ module _ (code : List ℕ) (registers : ℕ) (checked : checkOf (codeOf code reg
       ends {es = es} {x} d e r =
           subst (λ (z : List Step). Told bs z (x .end .wave)) (sym d) (subst (λ (z : Ran). Told bs es (z .end .wave)) (sym e) r)
 
-      module _ (carrying : OfCarrying) where
-        -- A RUN
-        pub run-told : (b : ℕ) (m : Machine) (es : List Step) → MachineFits m → Told bs es (m .wave)
-            → Told bs (stepsOf s code b m es) (runOf s code b m .end .wave)
-        run-told zero m es f r =
-            ⊎-elim (λ e. ends (steps-none s code m es) (at-ended s code 0 m e) r) (λ e. ends (steps-none s code m es) (at-budget s code m e) r)
-            (split (endedOf s code m))
-        run-told (suc b) m es f r =
-            ⊎-elim
-            (λ e. ends (steps-ended s code m es (suc b) e) (at-ended s code (suc b) m e) r)
-            (λ e.
-            ⊎-elim
-            (λ c.
-            ends (steps-clear s code m es b e c) (at-clear s code b m e c)
-            (run-told b (stepAt s code m .end) (taken code m ∷ es)
-            (step-keeps code registers checked short carrying s n m (inside s code m e) f) (step-told m es (inside s code m e) f c r)))
-            (λ c. ends (steps-fault s code m es b e c) (at-fault s code b m e c) r)
-            (split (clear (stepAt s code m .faults))))
-            (split (endedOf s code m))
+      -- A RUN
+      pub run-told : (b : ℕ) (m : Machine) (es : List Step) → MachineFits m → Told bs es (m .wave)
+          → Told bs (stepsOf s code b m es) (runOf s code b m .end .wave)
+      run-told zero m es f r =
+          ⊎-elim (λ e. ends (steps-none s code m es) (at-ended s code 0 m e) r) (λ e. ends (steps-none s code m es) (at-budget s code m e) r)
+          (split (endedOf s code m))
+      run-told (suc b) m es f r =
+          ⊎-elim
+          (λ e. ends (steps-ended s code m es (suc b) e) (at-ended s code (suc b) m e) r)
+          (λ e.
+          ⊎-elim
+          (λ c.
+          ends (steps-clear s code m es b e c) (at-clear s code b m e c)
+          (run-told b (stepAt s code m .end) (taken code m ∷ es)
+          (step-keeps code registers checked short s n m (inside s code m e) f) (step-told m es (inside s code m e) f c r)))
+          (λ c. ends (steps-fault s code m es b e c) (at-fault s code b m e c) r)
+          (split (clear (stepAt s code m .faults))))
+          (split (endedOf s code m))
 
 -- ---- the count of a run is that of its steps
 pub steps-counted : (s : Settings) (code : List ℕ) (b : ℕ) (m : Machine) (es : List Step)

@@ -20,7 +20,7 @@ use Rattle.replay.specs.Machine.{Machine}
 use Rattle.replay.specs.Run.{runOf}
 use Rattle.replay.specs.Replay.{mostWords, mostSteps, unless, launchTest, resumeTest, Answered, ending, launchMachine, stateMachine}
 use Rattle.replay.specs.Calls.{budgeted, resumedWith}
-use Rattle.replay.proofs.Keeping.{OfCarrying, run-keeps, run-long}
+use Rattle.replay.proofs.Keeping.{run-keeps, run-long}
 use Rattle.replay.proofs.Returns.{
   Launchable,
   launchable,
@@ -54,7 +54,7 @@ pub record Tells (bs : List Block) (p : Point) : Type 0 where
   -- and whenever a step closed a block, the active lanes after it were the entered less the left
   pub back : EachHandsBack bs (waveIn (p .answer .state) .active) (p .steps)
 
-module _ (carrying : OfCarrying) (s : Settings) (code : List ℕ) (l : Launchable s code) (bs : List Block) where
+module _ (s : Settings) (code : List ℕ) (l : Launchable s code) (bs : List Block) where
   -- at a point of a history the answer holds a machine that is in order, of which the steps tell
   record Holds (p : Point) : Type 0 where
     machine : Machine
@@ -76,10 +76,10 @@ module _ (carrying : OfCarrying) (s : Settings) (code : List ℕ) (l : Launchabl
         memories = refl;
         order =
             record {
-              fits = run-keeps code (s .registers) (l .checked) short carrying (budgeted b s) (s .lanes) b m (o .fits);
-              long = run-long carrying (budgeted b s) code b m ∙ o .long;
+              fits = run-keeps code (s .registers) (l .checked) short (budgeted b s) (s .lanes) b m (o .fits);
+              long = run-long (budgeted b s) code b m ∙ o .long;
             };
-        told = run-told code (s .registers) (l .checked) short (budgeted b s) (s .lanes) bs carrying b m es (o .fits) r;
+        told = run-told code (s .registers) (l .checked) short (budgeted b s) (s .lanes) bs b m es (o .fits) r;
       }
 
   roomy : (m : Machine) → InOrder s code l m → stateMachine (stateOf (m .wave) (m .preds)) (m .regs) (m .memories .device) (m .memories .local) ≡ m
@@ -125,18 +125,18 @@ module _ (carrying : OfCarrying) (s : Settings) (code : List ℕ) (l : Launchabl
         back = subst (λ (w : Wave). EachHandsBack bs (w .active) (p .steps)) (sym (wave-is p d)) (d .told .handed);
       }
 
-module _ (carrying : OfCarrying) (s : Settings) (code regs device local : List ℕ) (budgets : List ℕ) (allowed : Allowed budgets) where
+module _ (s : Settings) (code regs device local : List ℕ) (budgets : List ℕ) (allowed : Allowed budgets) where
   -- FROM A LAUNCH: from the steps alone
   pub launch-tells : launchTest s code regs ≡ Fine → Tells [] (furtherBy s code budgets (afterLaunch s code regs device local))
   launch-tells e =
       let l = launchable s (s .budget) code regs e in
       let m : Machine = launchMachine s regs device local in
-      let start : Holds carrying s code l [] (afterLaunch s code regs device local) =
-      subst (λ (x : Answered). Holds carrying s code l [] (record { answer = x; steps = stepsOf s code (s .budget) m [] }))
+      let start : Holds s code l [] (afterLaunch s code regs device local) =
+      subst (λ (x : Answered). Holds s code l [] (record { answer = x; steps = stepsOf s code (s .budget) m [] }))
       (sym (launched s code regs device local e))
-      (run-holds carrying s code l [] (s .budget) m [] (launch-in-order s code l regs device local (right-length s code regs e)) (told-none (m .wave))) in
-      tells carrying s code l [] (furtherBy s code budgets (afterLaunch s code regs device local))
-      (history-holds carrying s code l [] budgets (afterLaunch s code regs device local) allowed start)
+      (run-holds s code l [] (s .budget) m [] (launch-in-order s code l regs device local (right-length s code regs e)) (told-none (m .wave))) in
+      tells s code l [] (furtherBy s code budgets (afterLaunch s code regs device local))
+      (history-holds s code l [] budgets (afterLaunch s code regs device local) allowed start)
 
   -- FROM A HANDED-IN STATE: what went before is read from that state's sets
   pub resume-tells : (state : State) → resumeTest s state code regs ≡ Fine
@@ -150,8 +150,8 @@ module _ (carrying : OfCarrying) (s : Settings) (code regs device local : List �
       let o : InOrder s code l m =
       given-in-order s code l state regs device local (right-length s code regs first-tests)
       (unless-true (fitsTest code (s .registers) (s .lanes) (state .hot) (state .blocks)) 11 (then-second (launchTest s code regs) fitting e)) in
-      let start : Holds carrying s code l bs (afterResume s state code regs device local) =
-      subst (λ (x : Answered). Holds carrying s code l bs (record { answer = x; steps = stepsOf s code (s .budget) m [] }))
-      (sym (resumed s code regs device local state e)) (run-holds carrying s code l bs (s .budget) m [] o (told-none (m .wave))) in
-      tells carrying s code l bs (furtherBy s code budgets (afterResume s state code regs device local))
-      (history-holds carrying s code l bs budgets (afterResume s state code regs device local) allowed start)
+      let start : Holds s code l bs (afterResume s state code regs device local) =
+      subst (λ (x : Answered). Holds s code l bs (record { answer = x; steps = stepsOf s code (s .budget) m [] }))
+      (sym (resumed s code regs device local state e)) (run-holds s code l bs (s .budget) m [] o (told-none (m .wave))) in
+      tells s code l bs (furtherBy s code budgets (afterResume s state code regs device local))
+      (history-holds s code l bs budgets (afterResume s state code regs device local) allowed start)

@@ -1,7 +1,8 @@
--- The marked table, T1 to T11: one list of cases, what each gives and what the page says of it.
+-- The marked table, T1 to T14: one list of cases, what each gives and what the page says of it.
 use mathlib.Core.Bool.{Bool, true, false}
 use mathlib.Core.List.{List, [], _∷_}
-use Prim.Native.Nat.{ℕ}
+use Prim.Native.Nat.{ℕ, _*_}
+use lib.ListN.{replicate, getD}
 use Rattle.words.specs.declared.instr.TwoOp.{TwoOp}
 use Rattle.words.specs.declared.instr.ControlOp.{ControlOp}
 use Rattle.words.specs.declared.instr.Op.{Op}
@@ -10,22 +11,49 @@ use Rattle.words.specs.declared.reading.ReadAnswer.{ReadAnswer}
 use Rattle.words.specs.Layout.{instr}
 use Rattle.words.specs.Reading.{readAt}
 use Rattle.arith.specs.Arith.{twoOf, addressOf}
+use Rattle.ground.specs.Lists.{tabulate}
+use Rattle.compute.specs.Registers.{slot}
+use Rattle.replay.specs.declared.settings.Settings.{Settings}
+use Rattle.replay.specs.declared.answers.Outcome.{Outcome}
+use Rattle.replay.specs.Replay.{Answered, mostSteps, launchOf}
+use Rattle.key.specs.Body.{numbersOf}
+use Rattle.keys.specs.Key.{partsOf}
 
--- words to be read; an operation on two numbers; an address of a base and an offset
+-- words to be read; an operation on two numbers; an address of a base and an offset; a launch of so many lanes of a width, with so many
+-- registers, all 0, no memory and the largest budget
 pub data Case : Type 0 where
   reading : List ℕ → Case
   operation : TwoOp → ℕ → ℕ → Case
   address : ℕ → ℕ → Case
+  launching : ℕ → ℕ → ℕ → List ℕ → Case
 
+-- of a run that ends: its steps, register 1 of the launched lanes, the halted lanes; of one that faults: its steps, and the numbers of
+-- kernel 7's body
 pub data Answer : Type 0 where
   read : ReadAnswer → Answer
   number : ℕ → Answer
+  ended : ℕ → List ℕ → ℕ → Answer
+  faulted : ℕ → List ℕ → Answer
+  stopped : Answer
+
+abbrev settings : ℕ → ℕ → ℕ → Settings
+settings width lanes registers = record { width = width; registers = registers; lanes = lanes; budget = mostSteps }
+
+abbrev ran : Outcome → ℕ → ℕ → ℕ → Answered → Answer
+ran Outcome.Ended W n R a = ended (a .steps) (tabulate n (λ i. getD (a .regs) (slot W R i 1) 0)) (a .state .hot .halted)
+ran (Outcome.Fault f) W n R a = faulted (a .steps) (numbersOf (partsOf 7 f (a .state)))
+ran Outcome.OutOfBudget W n R a = stopped
+ran (Outcome.Refused number place) W n R a = stopped
+
+abbrev launched : ℕ → ℕ → ℕ → Answered → Answer
+launched W n R a = ran (a .outcome) W n R a
 
 -- what the definitions give
 abbrev pub gives : Case → Answer
 gives (reading words) = read (readAt words 0)
 gives (operation op a b) = number (twoOf op a b)
 gives (address base offset) = number (addressOf base offset)
+gives (launching W n R words) = launched W n R (launchOf (settings W n R) words (replicate (W * R) 0) [] [])
 
 -- a case, and what the page says of it
 pub record Entry : Type 0 where
@@ -59,4 +87,15 @@ table =
     ∷ entry (operation TwoOp.Sar 0x80000000 33) (number 0xC0000000)
     ∷ entry (operation TwoOp.Mulhi 0xFFFFFFFF 0xFFFFFFFF) (number 0xFFFFFFFE)
     ∷ entry (address 0xFFFFFFFC 8) (number 4)
+    -- T12 to T14
+    ∷ entry
+    (launching 8 4 2
+    (0xF2000000 ∷ 0xF1010000 ∷ 0x00000002 ∷ 0x2A010000 ∷ 0x01000000 ∷ 0x3F000001 ∷ 0xF1010000 ∷ 0x00000007 ∷ 0x3F000010 ∷ 0x3F000090 ∷ 0x3F000020
+    ∷ 0x00010100 ∷ 0x00000000 ∷ []))
+    (ended 9 (7 ∷ 8 ∷ 2 ∷ 2 ∷ []) 12)
+    ∷ entry (launching 8 2 2 (0xF2000000 ∷ 0x03010000 ∷ 0x00000000 ∷ [])) (faulted 1 (7 ∷ 1 ∷ 1 ∷ 4 ∷ 1 ∷ 3 ∷ 0 ∷ 0 ∷ []))
+    ∷ entry
+    (launching 8 3 2
+    (0xF2000000 ∷ 0xF1010000 ∷ 0x00000001 ∷ 0x28010000 ∷ 0x01000000 ∷ 0x3F000030 ∷ 0x3F000041 ∷ 0x03010100 ∷ 0x00000000 ∷ 0x3F000060 ∷ []))
+    (faulted 5 (7 ∷ 7 ∷ 1 ∷ 4 ∷ 1 ∷ 5 ∷ 0 ∷ 1 ∷ 3 ∷ 5 ∷ 7 ∷ 2 ∷ 0 ∷ 0 ∷ []))
     ∷ []

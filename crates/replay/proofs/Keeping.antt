@@ -39,6 +39,7 @@ use Rattle.compute.specs.declared.Shape.{Shape}
 use Rattle.compute.specs.Operands.{Lent}
 use Rattle.compute.specs.Faulting.{clear}
 use Rattle.compute.specs.Carrying.{carriedOf}
+use Rattle.compute.proofs.Carrying.{other-bits, length-regs}
 use Rattle.replay.specs.declared.settings.Settings.{Settings}
 use Rattle.replay.specs.Machine.{Machine, named, preds, withNamed}
 use Rattle.replay.specs.Step.{shapeOf, launchedOf, lanesOf, computed, waveAfter, faultsIn, carriedBy, stepOf}
@@ -46,14 +47,7 @@ use Rattle.replay.specs.Run.{endedOf, stepAt, runOf, Ran}
 use Rattle.replay.specs.Replay.{mostWords}
 use Rattle.replay.proofs.Runs.{at-ended, at-budget, at-fault, at-clear}
 
--- what is asked of an instruction's work on registers and memories: at lanes other than t a predicate stays as it was, and no register is
--- added or lost
-pub record OfCarrying : Type 0 where
-  pub other-bits : (shape : Shape) (x : Instr) (t : ℕ) (m : Lent) (i : ℕ) → has t i ≡ false
-      → has (carriedOf shape x t m .after .predicate) i ≡ has (m .predicate) i
-  pub length-regs : (shape : Shape) (x : Instr) (t : ℕ) (m : Lent) → length (carriedOf shape x t m .after .regs) ≡ length (m .regs)
-
--- so that the lanes t alone join a predicate
+-- only the lanes t join a predicate that is as it was at the others
 joined : (p q t i : ℕ) → (has t i ≡ false → has p i ≡ has q i) → bit p i ≤ max (bit q i) (bit t i)
 joined p q t i h =
     ⊎-elim
@@ -133,7 +127,7 @@ module _ (code : List ℕ) (registers : ℕ) (checked : checkOf (codeOf code reg
     wave-keeps (Op.Atomic o) i = plain-keeps (Op.Atomic o) i
     wave-keeps Op.Cas i = plain-keeps Op.Cas i
 
-  module _ (carrying : OfCarrying) (s : Settings) (n : ℕ) where
+  module _ (s : Settings) (n : ℕ) where
     -- the wave and its predicates fit
     abbrev MachineFits : Machine → Type 0
     MachineFits m = WaveFits code registers n (m .wave) (m .preds)
@@ -147,7 +141,7 @@ module _ (code : List ℕ) (registers : ℕ) (checked : checkOf (codeOf code reg
         omega (
           arith,
           joined (computed s x (lanesOf x m) m .after .predicate) (named (x .rd) (m .preds)) (lanesOf x m) i
-              (carrying .other-bits (shapeOf s) x (lanesOf x m) (record { predicate = named (x .rd) (m .preds); regs = m .regs; memories = m .memories }) i),
+              (other-bits (shapeOf s) x (lanesOf x m) (record { predicate = named (x .rd) (m .preds); regs = m .regs; memories = m .memories }) i),
           named-fits (first n) (m .preds) p (x .rd) i,
           executing-within (x .guard) (m .wave .active) (m .preds) i,
           active-launched n (m .wave) (m .preds) (f .sets) i,
@@ -192,7 +186,7 @@ module _ (code : List ℕ) (registers : ℕ) (checked : checkOf (codeOf code reg
         (split (endedOf s code m))
 
 -- ---- the registers
-module _ (carrying : OfCarrying) (s : Settings) (code : List ℕ) where
+module _ (s : Settings) (code : List ℕ) where
   either-long : (c : Bool) (v m : Machine) → length (v .regs) ≡ length (m .regs) → length (cond c v m .regs) ≡ length (m .regs)
   either-long true v m e = e
   either-long false v m e = refl
@@ -202,7 +196,7 @@ module _ (carrying : OfCarrying) (s : Settings) (code : List ℕ) where
   step-long m =
       let x : Instr = instrAt code (m .wave .place) in
       either-long (clear (faultsIn s x m)) (carriedBy s x (lanesOf x m) m) m
-      (carrying .length-regs (shapeOf s) x (lanesOf x m) (record { predicate = named (x .rd) (m .preds); regs = m .regs; memories = m .memories }))
+      (length-regs (shapeOf s) x (lanesOf x m) (record { predicate = named (x .rd) (m .preds); regs = m .regs; memories = m .memories }))
 
   -- no step adds or loses a register
   pub run-long : (b : ℕ) (m : Machine) → length (runOf s code b m .end .regs) ≡ length (m .regs)

@@ -53,7 +53,7 @@ use Rattle.replay.specs.Replay.{
 }
 use Rattle.replay.specs.Calls.{budgeted, resumedWith, added}
 use Rattle.replay.proofs.Adding.{following, runs-add}
-use Rattle.replay.proofs.Keeping.{OfCarrying, run-keeps, run-long}
+use Rattle.replay.proofs.Keeping.{run-keeps, run-long}
 
 -- ---- what a test that was passed says
 pub then-first : (v next : Checked) → thenTest v next ≡ Fine → v ≡ Fine
@@ -179,24 +179,23 @@ module _ (s : Settings) (code : List ℕ) (l : Launchable s code) where
       (true-unless (fitsTest code (s .registers) (s .lanes) (x .hot) (x .blocks)) 11
       (fits-test code (s .registers) (s .lanes) (x .hot) (x .blocks) .1 (held-fits m o)))
 
-  module _ (carrying : OfCarrying) where
-    -- and stays so
-    run-in-order : (b : ℕ) (m : Machine) → InOrder m → InOrder (runOf s code b m .end)
-    run-in-order b m o =
-        record {
-          fits = run-keeps code (s .registers) (l .checked) (leb-true (length code) mostWords (l .short)) carrying s (s .lanes) b m (o .fits);
-          long = run-long carrying s code b m ∙ o .long;
-        }
+  -- and stays so
+  run-in-order : (b : ℕ) (m : Machine) → InOrder m → InOrder (runOf s code b m .end)
+  run-in-order b m o =
+      record {
+        fits = run-keeps code (s .registers) (l .checked) (leb-true (length code) mostWords (l .short)) s (s .lanes) b m (o .fits);
+        long = run-long s code b m ∙ o .long;
+      }
 
-    -- THE STATE that a run answers fits
-    pub returned-fits : (b : ℕ) (m : Machine) → InOrder m
-        → Fits code (s .registers) (s .lanes) (ending (runOf s code b m) .state .hot) (ending (runOf s code b m) .state .blocks)
-    returned-fits b m o = held-fits (runOf s code b m .end) (run-in-order b m o)
+  -- THE STATE that a run answers fits
+  pub returned-fits : (b : ℕ) (m : Machine) → InOrder m
+      → Fits code (s .registers) (s .lanes) (ending (runOf s code b m) .state .hot) (ending (runOf s code b m) .state .blocks)
+  returned-fits b m o = held-fits (runOf s code b m .end) (run-in-order b m o)
 
-    -- so that it goes on, with any budget that is allowed
-    goes-on-from : (b c : ℕ) (m : Machine) → InOrder m → c ≤ mostSteps
-        → resumeTest (budgeted c s) (ending (runOf s code b m) .state) code (ending (runOf s code b m) .regs) ≡ Fine
-    goes-on-from b c m o h = in-order-resumes c (runOf s code b m .end) (run-in-order b m o) h
+  -- so that it goes on, with any budget that is allowed
+  goes-on-from : (b c : ℕ) (m : Machine) → InOrder m → c ≤ mostSteps
+      → resumeTest (budgeted c s) (ending (runOf s code b m) .state) code (ending (runOf s code b m) .regs) ≡ Fine
+  goes-on-from b c m o h = in-order-resumes c (runOf s code b m .end) (run-in-order b m o) h
 
 -- ---- the answers, once the tests are passed
 module _ (s : Settings) (code regs device local : List ℕ) where
@@ -222,7 +221,7 @@ module _ (s : Settings) (code regs device local : List ℕ) where
   resume-passed state e = not-refused (resumeTest s state code regs) _ _ _ e
 
 -- ---- WHAT A CALL ANSWERS can be handed in again: it is not refused
-module _ (carrying : OfCarrying) (s : Settings) (code regs device local : List ℕ) (c : ℕ) (most : c ≤ mostSteps) where
+module _ (s : Settings) (code regs device local : List ℕ) (c : ℕ) (most : c ≤ mostSteps) where
   abbrev Resumes : Answered → Type 0
   Resumes x = resumeTest (budgeted c s) (x .state) code (x .regs) ≡ Fine
 
@@ -230,7 +229,7 @@ module _ (carrying : OfCarrying) (s : Settings) (code regs device local : List �
   launch-returns e =
       let l = launchable s (s .budget) code regs e in
       subst Resumes (sym (launched s code regs device local e))
-      (goes-on-from s code l carrying (s .budget) c (launchMachine s regs device local) (launch-in-order s code l regs device local (right-length s code regs e)) most)
+      (goes-on-from s code l (s .budget) c (launchMachine s regs device local) (launch-in-order s code l regs device local (right-length s code regs e)) most)
 
   pub resume-returns : (state : State) → resumeTest s state code regs ≡ Fine → Resumes (resumeOf s state code regs device local)
   resume-returns state e =
@@ -238,7 +237,7 @@ module _ (carrying : OfCarrying) (s : Settings) (code regs device local : List �
       let first-tests : launchTest s code regs ≡ Fine = then-first (launchTest s code regs) fitting e in
       let l = launchable s (s .budget) code regs first-tests in
       subst Resumes (sym (resumed s code regs device local state e))
-      (goes-on-from s code l carrying (s .budget) c (stateMachine state regs device local)
+      (goes-on-from s code l (s .budget) c (stateMachine state regs device local)
       (given-in-order s code l state regs device local (right-length s code regs first-tests)
       (unless-true (fitsTest code (s .registers) (s .lanes) (state .hot) (state .blocks)) 11 (then-second (launchTest s code regs) fitting e)))
       most)
@@ -258,7 +257,7 @@ state-machine m h =
     ap (λ (w : Wave). record { wave = w; preds = m .preds; regs = m .regs; memories = m .memories }) (wave-in (m .wave) (m .preds) h)
 
 -- ---- STEPS ADD
-module _ (carrying : OfCarrying) (s : Settings) (code : List ℕ) (l : Launchable s code) (a b : ℕ) (most : a + b ≤ mostSteps) (m : Machine)
+module _ (s : Settings) (code : List ℕ) (l : Launchable s code) (a b : ℕ) (most : a + b ≤ mostSteps) (m : Machine)
     (o : InOrder s code l m) where
   abbrev earlier : Ran
   earlier = runOf (budgeted a s) code a m
@@ -269,9 +268,9 @@ module _ (carrying : OfCarrying) (s : Settings) (code : List ℕ) (l : Launchabl
       let r : Machine = runOf s code a m .end in
       ap (resumedWith b s code) e
       ∙ resumed (budgeted b s) code (r .regs) (r .memories .device) (r .memories .local) (stateOf (r .wave) (r .preds))
-      (goes-on-from s code l carrying a b m o (omega arith))
+      (goes-on-from s code l a b m o (omega arith))
       ∙ ap (λ (k : Machine). ending (runOf (budgeted b s) code b k))
-      (state-machine r (path-room code (s .registers) (s .lanes) (r .wave) (r .preds) (run-in-order s code l carrying a m o .fits)))
+      (state-machine r (path-room code (s .registers) (s .lanes) (r .wave) (r .preds) (run-in-order s code l a m o .fits)))
       ∙ ap (λ (r : Ran). ending (runOf (budgeted b s) code b (r .end))) (sym (run-budgeted a (s .budget) s code a m))
 
   goes : earlier .outcome ≡ OutOfBudget → runOf (budgeted (a + b) s) code (a + b) m ≡ later (earlier .steps) (runOf (budgeted b s) code b (earlier .end))
@@ -284,7 +283,7 @@ module _ (carrying : OfCarrying) (s : Settings) (code : List ℕ) (l : Launchabl
       → ending (runOf (budgeted (a + b) s) code (a + b) m) ≡ added (earlier .steps) (resumedWith b s code (ending earlier))
   run-adds e = ap ending (goes e) ∙ ap (added (earlier .steps)) (sym further)
 
-module _ (carrying : OfCarrying) (s : Settings) (code regs device local : List ℕ) (a b : ℕ) (most : a + b ≤ mostSteps) where
+module _ (s : Settings) (code regs device local : List ℕ) (a b : ℕ) (most : a + b ≤ mostSteps) where
   pub launch-adds : launchOf (budgeted a s) code regs device local .outcome ≡ OutOfBudget
       → launchOf (budgeted (a + b) s) code regs device local
       ≡ added (launchOf (budgeted a s) code regs device local .steps) (resumedWith b s code (launchOf (budgeted a s) code regs device local))
@@ -295,7 +294,7 @@ module _ (carrying : OfCarrying) (s : Settings) (code regs device local : List �
       let m : Machine = launchMachine s regs device local in
       let x = launched (budgeted a s) code regs device local t in
       launched (budgeted (a + b) s) code regs device local (passes s code l (a + b) regs most long)
-      ∙ run-adds carrying s code l a b most m (launch-in-order s code l regs device local long) (ap (λ (y : Answered). y .outcome) (sym x) ∙ e)
+      ∙ run-adds s code l a b most m (launch-in-order s code l regs device local long) (ap (λ (y : Answered). y .outcome) (sym x) ∙ e)
       ∙ ap (λ (y : Answered). added (y .steps) (resumedWith b s code y)) (sym x)
 
   pub resume-adds : (state : State) → resumeOf (budgeted a s) state code regs device local .outcome ≡ OutOfBudget
@@ -314,5 +313,5 @@ module _ (carrying : OfCarrying) (s : Settings) (code regs device local : List �
       (unless-true (fitsTest code (s .registers) (s .lanes) (state .hot) (state .blocks)) 11 fine) in
       resumed (budgeted (a + b) s) code regs device local state
       (then-both (launchTest (budgeted (a + b) s) code regs) fitting (passes s code l (a + b) regs most long) fine)
-      ∙ run-adds carrying s code l a b most m o (ap (λ (y : Answered). y .outcome) (sym x) ∙ e)
+      ∙ run-adds s code l a b most m o (ap (λ (y : Answered). y .outcome) (sym x) ∙ e)
       ∙ ap (λ (y : Answered). added (y .steps) (resumedWith b s code y)) (sym x)
