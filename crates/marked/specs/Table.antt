@@ -31,7 +31,7 @@ pub data Case : Type 0 where
 -- kernel 7's body
 pub data Answer : Type 0 where
   read : ReadAnswer → Answer
-  number : ℕ → Answer
+  value : ℕ → Answer
   ended : ℕ → List ℕ → ℕ → Answer
   faulted : ℕ → List ℕ → Answer
   stopped : Answer
@@ -51,8 +51,8 @@ launched W n R a = ran (a .outcome) W n R a
 -- what the definitions give
 abbrev pub gives : Case → Answer
 gives (reading words) = read (readAt words 0)
-gives (operation op a b) = number (twoOf op a b)
-gives (address base offset) = number (addressOf base offset)
+gives (operation op a b) = value (twoOf op a b)
+gives (address base offset) = value (addressOf base offset)
 gives (launching W n R words) = launched W n R (launchOf (settings W n R) words (replicate (W * R) 0) [] [])
 
 -- a case, and what the page says of it
@@ -80,13 +80,13 @@ table =
     ∷ entry (reading (0x3F000041 ∷ [])) (one (Op.Control ControlOp.Break) 1 false 0 0 0 0 1)
     ∷ entry (reading (0x3F000070 ∷ [])) (refusal 4)
     -- T7 to T11
-    ∷ entry (operation TwoOp.Div 0xFFFFFFF9 2) (number 0xFFFFFFFD)
-    ∷ entry (operation TwoOp.Rem 0xFFFFFFF9 2) (number 0xFFFFFFFF)
-    ∷ entry (operation TwoOp.Div 0x80000000 0xFFFFFFFF) (number 0x80000000)
-    ∷ entry (operation TwoOp.Rem 0x80000000 0xFFFFFFFF) (number 0)
-    ∷ entry (operation TwoOp.Sar 0x80000000 33) (number 0xC0000000)
-    ∷ entry (operation TwoOp.Mulhi 0xFFFFFFFF 0xFFFFFFFF) (number 0xFFFFFFFE)
-    ∷ entry (address 0xFFFFFFFC 8) (number 4)
+    ∷ entry (operation TwoOp.Div 0xFFFFFFF9 2) (value 0xFFFFFFFD)
+    ∷ entry (operation TwoOp.Rem 0xFFFFFFF9 2) (value 0xFFFFFFFF)
+    ∷ entry (operation TwoOp.Div 0x80000000 0xFFFFFFFF) (value 0x80000000)
+    ∷ entry (operation TwoOp.Rem 0x80000000 0xFFFFFFFF) (value 0)
+    ∷ entry (operation TwoOp.Sar 0x80000000 33) (value 0xC0000000)
+    ∷ entry (operation TwoOp.Mulhi 0xFFFFFFFF 0xFFFFFFFF) (value 0xFFFFFFFE)
+    ∷ entry (address 0xFFFFFFFC 8) (value 4)
     -- T12 to T14
     ∷ entry
     (launching 8 4 2
