@@ -6,7 +6,6 @@ use lib.ListN.{replicate, getD}
 use Rattle.words.specs.declared.instr.TwoOp.{TwoOp}
 use Rattle.words.specs.declared.instr.ControlOp.{ControlOp}
 use Rattle.words.specs.declared.instr.Op.{Op}
-use Rattle.words.specs.declared.instr.Guard.{Guard}
 use Rattle.words.specs.declared.reading.ReadAnswer.{ReadAnswer}
 use Rattle.words.specs.Layout.{instr}
 use Rattle.words.specs.Reading.{readAt}

@@ -1,10 +1,8 @@
 -- A run of a + b steps is a run of a, and, where that stopped for want of budget, a run of b from where it stopped.
 use Prim.Native.Nat.{ℕ, zero, suc, _+_}
 use mathlib.Core.Path.{_≡_, refl, ap, sym, _∙_}
-use mathlib.Core.Bool.{Bool, true, false}
 use mathlib.Core.Logic.{⊎-elim}
 use mathlib.Core.List.{List}
-use native.Mathlib.Omega.{arith}
 use native.Mathlib.Nat.{zero-add, suc-add}
 use Rattle.ground.proofs.Bools.{split}
 use Rattle.compute.specs.Faulting.{clear}
@@ -12,7 +10,7 @@ use Rattle.replay.specs.declared.settings.Settings.{Settings}
 use Rattle.replay.specs.declared.answers.Outcome.{Outcome}
 use Rattle.replay.specs.declared.answers.Outcome.the-variants.{Ended, OutOfBudget, Fault, Refused}
 use Rattle.replay.specs.Machine.{Machine}
-use Rattle.replay.specs.Run.{Ran, stop, later, endedOf, stepAt, runOf}
+use Rattle.replay.specs.Run.{Ran, later, endedOf, stepAt, runOf}
 use Rattle.replay.proofs.Runs.{at-budget, at-ended, at-fault, at-clear, later-later, later-zero}
 
 -- what a later run makes of an earlier answer: it goes on only where the budget ran out

@@ -1,8 +1,7 @@
 -- How the ways into a replay come to what the definitions say: by the verdict of the tests, a refusal or the run.
-use mathlib.Core.Path.{_≡_, refl, sym, ap, _∙_}
+use mathlib.Core.Path.{_≡_, ap, _∙_}
 use mathlib.Core.List.{List}
 use Prim.Native.Nat.{ℕ}
-use lib.ListN.{length}
 use Rattle.blocks.specs.declared.structure.Checked.{Checked}
 use Rattle.wave.specs.declared.state.Hot.{Hot}
 use Rattle.wave.specs.declared.state.State.{State}
@@ -13,24 +12,7 @@ use Rattle.replay.specs.declared.answers.Replayed.{Replayed}
 use Rattle.replay.specs.declared.run.Stopped.{Stopped}
 use Rattle.replay.specs.Step.{launchedLanes}
 use Rattle.replay.specs.Run.{Ran, gone}
-use Rattle.replay.specs.Replay.{
-  Answered,
-  answered,
-  refusedAs,
-  memories,
-  ending,
-  thenTest,
-  boundsTest,
-  launchTest,
-  resumeTest,
-  stateMachine,
-  runFrom,
-  filled,
-  notLaunched,
-  launchOf,
-  resumeOf,
-  goOnOf,
-}
+use Rattle.replay.specs.Replay.{answered, refusedAs, ending, thenTest, boundsTest, launchTest, resumeTest, stateMachine, runFrom, filled, notLaunched, launchOf, resumeOf, goOnOf}
 
 -- the answer of a run that stopped, its state made tidy
 pub ends-tidy :

@@ -35,10 +35,7 @@ use Rattle.wave.proofs.AtLane.{PredsFit, fits-lanes, lanes-fit}
 use Rattle.wave.proofs.Guards.{executing-within}
 use Rattle.wave.proofs.Keeps.{active-launched}
 use Rattle.wave.proofs.Stays.{control-keeps, onward-keeps}
-use Rattle.compute.specs.declared.Shape.{Shape}
-use Rattle.compute.specs.Operands.{Lent}
 use Rattle.compute.specs.Faulting.{clear}
-use Rattle.compute.specs.Carrying.{carriedOf}
 use Rattle.compute.proofs.Carrying.{other-bits, length-regs}
 use Rattle.replay.specs.declared.settings.Settings.{Settings}
 use Rattle.replay.specs.Machine.{Machine, named, preds, withNamed}

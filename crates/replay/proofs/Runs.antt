@@ -1,21 +1,18 @@
 -- What the loop of a run keeps, how each way out gives the run, and how runs follow one another.
-use Prim.Native.Nat.{ℕ, zero, suc, _+_, _-_, _≤_, _<_}
-use mathlib.Core.Path.{_≡_, refl, ap, sym, _∙_}
-use mathlib.Core.Bool.{Bool, true, false, not}
-use mathlib.Core.Logic.{_⊎_, ⊎-elim, inl, inr}
+use Prim.Native.Nat.{ℕ, zero, suc, _+_, _-_, _≤_}
+use mathlib.Core.Path.{_≡_, ap, sym, _∙_}
+use mathlib.Core.Bool.{true, false}
 use mathlib.Core.List.{List}
 use native.Mathlib.Omega.{arith}
-use native.Mathlib.Numerals.{add-one}
 use native.Mathlib.Nat.{zero-add, add-zero, add-assoc}
-use Rattle.compute.specs.declared.Faults.{Faults}
 use Rattle.compute.specs.Faulting.{clear}
 use Rattle.words.specs.declared.instr.Instr.{Instr}
 use Rattle.replay.specs.declared.settings.Settings.{Settings}
 use Rattle.replay.specs.declared.answers.Outcome.{Outcome}
-use Rattle.replay.specs.declared.answers.Outcome.the-variants.{Ended, OutOfBudget, Fault, Refused}
+use Rattle.replay.specs.declared.answers.Outcome.the-variants.{Ended, OutOfBudget, Fault}
 use Rattle.replay.specs.Machine.{Machine}
-use Rattle.replay.specs.Step.{Stepped, stepAs, stepOf}
-use Rattle.replay.specs.Run.{Ran, stop, later, unless, endedOf, stepAt, onward, runOf}
+use Rattle.replay.specs.Step.{Stepped, stepOf}
+use Rattle.replay.specs.Run.{Ran, stop, later, endedOf, stepAt, onward, runOf}
 
 abbrev pub done : Outcome → ℕ → Machine → Ran
 done o n m = record { outcome = o; steps = n; end = m }

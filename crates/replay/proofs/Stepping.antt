@@ -5,9 +5,7 @@ use mathlib.Core.List.{List}
 use Prim.Native.Nat.{ℕ, min}
 use native.Mathlib.Nat.{min-le-right, min-eq-left}
 use lib.Dec.{eqb}
-use lib.ListN.{length}
-use Rattle.ground.proofs.Bools.{never, split}
-use Rattle.words.specs.declared.instr.Op.{Op}
+use Rattle.ground.proofs.Bools.{never}
 use Rattle.words.specs.declared.instr.Instr.{Instr}
 use Rattle.words.specs.declared.instr.ControlOp.{ControlOp}
 use Rattle.words.specs.declared.fetching.ControlIn.{ControlIn}
@@ -25,17 +23,15 @@ use Rattle.wave.proofs.Laying.{length-opened}
 use Rattle.wave.proofs.View.{Seen}
 use Rattle.compute.specs.declared.Faults.{Faults}
 use Rattle.compute.specs.declared.Carried.{Carried}
-use Rattle.compute.specs.Memory.{Memories}
 use Rattle.compute.specs.Operands.{Lent, lent}
 use Rattle.compute.specs.Faulting.{clear}
 use Rattle.compute.specs.Carrying.{Outcome, outcome, carried, carriedOf}
 use Rattle.compute.proofs.Carrying as carrying
 use Rattle.replay.specs.declared.settings.Settings.{Settings}
-use Rattle.replay.specs.declared.step.StepAnswer.{StepAnswer}
 use Rattle.replay.specs.Machine.{Machine, machineOf, named, preds, withNamed, hotWith}
 use Rattle.replay.specs.Run.{stepAt}
 use Rattle.replay.specs.Step as spec
-use Rattle.replay.specs.Step.{shapeOf, launchedOf, lanesOf, computed, waveBy, barrierBy, noFaults, withBarrier, stepAs, ordinaryOf, stepOf}
+use Rattle.replay.specs.Step.{shapeOf, launchedOf, lanesOf, computed, noFaults, withBarrier, stepAs, ordinaryOf, stepOf}
 
 -- the wave that is read after going on by some words
 pub onward-seen : (n : ℕ) (h : Hot) (ps : Preds) (xs : List ℕ) → waveOf (hotOf (onwardBy n (waveOf h xs)) ps) xs ≡ onwardBy n (waveOf h xs)

@@ -5,13 +5,11 @@ use mathlib.Core.List.{List}
 use lib.ListN.{length}
 use lib.Dec.{eqb, leb}
 use Rattle.lanes.specs.Sets.{without}
-use Rattle.words.specs.declared.instr.Instr.{Instr}
 use Rattle.words.specs.Fetching.{instrAt}
-use Rattle.compute.specs.declared.Faults.{Faults}
 use Rattle.compute.specs.Faulting.{clear}
 use Rattle.replay.specs.declared.settings.Settings.{Settings}
 use Rattle.replay.specs.declared.answers.Outcome.{Outcome}
-use Rattle.replay.specs.declared.answers.Outcome.the-variants.{Ended, OutOfBudget, Fault, Refused}
+use Rattle.replay.specs.declared.answers.Outcome.the-variants.{Ended, OutOfBudget, Fault}
 use Rattle.replay.specs.declared.run.Stopped.{Stopped}
 use Rattle.replay.specs.Machine.{Machine, machineOf}
 use Rattle.replay.specs.Step.{launchedOf, Stepped, stepOf}
