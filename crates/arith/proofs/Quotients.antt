@@ -14,7 +14,7 @@ use mir.ValLaws.{sfits-le}
 use mir.Facts.{fits-lit, ofZ-toZ, sfits-toZ, toZ-inj}
 use Rattle.ground.proofs.Bools.{never, and-left, and-right}
 use Rattle.arith.specs.Arith.{signed, register}
-use Rattle.arith.proofs.Registers.{Read}
+use Rattle.arith.proofs.Registers.{back, Read, worked, written}
 
 -- the registers of the least signed number and of -1
 abbrev least : ℕ
@@ -86,10 +86,29 @@ quotient-fits a b f g e =
 pub remainder-fits : (a b : ℕ) → Fits w32 a → SFits w32 (remZ (signed a) (signed b))
 remainder-fits a b f = sfits-le (mag-rem (signed a) (signed b)) (sfits-toZ f)
 
--- ---- what the machine asks of a divisor
+-- ---- the machine's division: x and y were read from a and b, which neither fault nor overflow
+
+pub record Divided (a b : ℕ) (x y : ℤ) : Type 0 where
+  pub dividend : Read a x
+  pub divisor : Read b y
+  pub some : b ≡ 0 → ⊥
+  pub held : overflowing a b ≡ false
 
 above-zero : (b : ℕ) → (b ≡ 0 → ⊥) → 0 < b
 above-zero b h = omega arith
 
-pub divisor : {b : ℕ} {y : ℤ} → Read b y → (b ≡ 0 → ⊥) → 0 < register y
-divisor {b} r h = rw (ap register (r .is) ∙ ofZ-toZ (r .fits)) (above-zero b h)
+module _ {a b : ℕ} {x y : ℤ} (d : Divided a b x y) where
+  fitting : SFits w32 (quotZ (signed a) (signed b))
+  fitting = quotient-fits a b (d .dividend .fits) (d .divisor .fits) (d .held)
+
+  pub asked : (0 < register y) × SFits w32 (quotZ (back x) (back y))
+  asked = (
+    rw (ap register (d .divisor .is) ∙ ofZ-toZ (d .divisor .fits)) (above-zero b (d .some)),
+    rw (worked quotZ (d .dividend) (d .divisor)) fitting,
+  )
+
+  pub quotient : register (back (quotZ (back x) (back y))) ≡ register (quotZ (signed a) (signed b))
+  quotient = written (worked quotZ (d .dividend) (d .divisor)) fitting
+
+  pub remainder : register (back (remZ (back x) (back y))) ≡ register (remZ (signed a) (signed b))
+  remainder = written (worked remZ (d .dividend) (d .divisor)) (remainder-fits a b (d .dividend .fits))

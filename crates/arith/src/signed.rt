@@ -60,9 +60,5 @@ pub fn max(a: u32, b: u32) -> u32
 pub fn abs(a: u32) -> u32
     ensures { λ r. ⌜ r ≡ oneOf OneOp.Abs a ⌝ }
 {
-    if a < LEAST {
-        a
-    } else {
-        MINUS_ONE - a + 1
-    }
+    if a < LEAST { a } else { MINUS_ONE - a + 1 }
 }

@@ -63,21 +63,30 @@ fn answer(work: Work, a: u32, b: u32) -> u32 {
     }
 }
 
-// One line: the name, `a`, and the answer for each corner value.
-fn line(name: &[u8], work: Work, a: u32) {
+// How a line starts: the name and `a`.
+fn start(name: &[u8], a: u32) {
     io::write_all(STDOUT_FILENO, name);
     io::write_all(STDOUT_FILENO, b" ");
     io::print_hex(STDOUT_FILENO, a as u64, 8);
     io::write_all(STDOUT_FILENO, b":");
+}
+
+// The answer for `b`, or that it faults.
+fn put(work: Work, a: u32, b: u32) {
+    io::write_all(STDOUT_FILENO, b" ");
+    if faults(work, b) {
+        io::write_all(STDOUT_FILENO, b"fault");
+        return;
+    }
+    io::print_hex(STDOUT_FILENO, answer(work, a, b) as u64, 8);
+}
+
+// One line: the name, `a`, and the answer for each corner value.
+fn line(name: &[u8], work: Work, a: u32) {
+    start(name, a);
     let mut i: u32 = 0;
     while i < CORNERS {
-        let b = corner(i);
-        io::write_all(STDOUT_FILENO, b" ");
-        if faults(work, b) {
-            io::write_all(STDOUT_FILENO, b"fault");
-        } else {
-            io::print_hex(STDOUT_FILENO, answer(work, a, b) as u64, 8);
-        }
+        put(work, a, corner(i));
         i += 1;
     }
     io::write_all(STDOUT_FILENO, b"\n");

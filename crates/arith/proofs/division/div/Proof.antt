@@ -1,13 +1,7 @@
--- `arith::division::div` meets its contract: the quotient fits, but for the one that is handled apart.
+-- `arith::division::div` meets its contract: every quotient that is not handled apart fits.
 use mathlib.Core.Path.{_∙_}
-use Prim.Native.Nat.{ℕ}
-use lib.Signed.{quotZ}
 use borrow.Author.Needs.{needs}
-use mir.Syntax.{w32}
-use mir.Val.{SFits}
-use Rattle.arith.specs.Arith.{signed}
-use Rattle.arith.proofs.Registers.{Read, worked, written}
-use Rattle.arith.proofs.Quotients.{by-zero, overflow, quotient-fits, divisor}
+use Rattle.arith.proofs.Quotients.{by-zero, overflow, Divided, asked, quotient}
 use Rattle.arith.proofs.division.div.Statement.{statement}
 use Rattle.arith.proofs.division.div.Tie as tie
 
@@ -23,33 +17,26 @@ to-signed-requires c κs = search needs
 to-signed-requires-2 : tie.Need-to-signed-requires-2
 to-signed-requires-2 c κs = search needs
 
--- once both registers are read
-module _ (c : tie.After-to-signed2) where
-  abbrev a : ℕ
-  a = c .before .before .before .before .args .a
-
-  abbrev b : ℕ
-  b = c .before .before .before .before .args .b
-
-  dividend : Read a (c .before .to-signed .result)
-  dividend = record { fits = c .before .before .before .before .fits .a; is = c .before .to-signed .ensures }
-
-  by : Read b (c .to-signed2 .result)
-  by = record { fits = c .before .before .before .before .fits .b; is = c .to-signed2 .ensures }
-
-  fitting : SFits w32 (quotZ (signed a) (signed b))
-  fitting = quotient-fits a b (dividend .fits) (by .fits) (c .before .before .if2 .left)
+divided :
+    (c : tie.After-to-signed2)
+    → Divided (c .before .before .before .before .args .a) (c .before .before .before .before .args .b) (c .before .to-signed .result) (c .to-signed2 .result)
+divided c =
+    let s = c .before .before .before .before in
+    record {
+      dividend = record { fits = s .fits .a; is = c .before .to-signed .ensures };
+      divisor = record { fits = s .fits .b; is = c .to-signed2 .ensures };
+      some = c .before .before .before .if1 .left;
+      held = c .before .before .if2 .left;
+    }
 
 div-to-register : tie.Need-div-to-register
-div-to-register c =
-    (divisor (by c) (c .before .before .before .if1 .left), rw (worked quotZ (dividend c) (by c)) (fitting c))
+div-to-register c = asked (divided c)
 
 to-register-requires : tie.Need-to-register-requires
 to-register-requires c κs = search needs
 
 returns-3 : tie.Need-returns-3
-returns-3 c =
-    c .to-register .ensures ∙ written (worked quotZ (dividend (c .before)) (by (c .before))) (fitting (c .before))
+returns-3 c = c .to-register .ensures ∙ quotient (divided (c .before))
 
 pub div-spec : {M : Type 1} → statement M
 div-spec =
