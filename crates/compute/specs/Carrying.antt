@@ -44,6 +44,7 @@ afterOf shape x t v m =
 abbrev pub unlessFault : Faults → Lent → Lent → Outcome
 unlessFault f before after = outcome f (cond (clear f) after before)
 
+-- x carried out by the lanes t, which have read v
 abbrev pub havingRead : Shape → Instr → ℕ → Operands → Lent → Outcome
 havingRead shape x t v m = unlessFault (faultsOf shape x t v m) m (afterOf shape x t v m)
 

@@ -21,6 +21,7 @@ isOdd address = not (eqb (address % 4) 0)
 abbrev pub isPast : ℕ → ℕ → Bool
 isPast words address = leb words (wordOf address)
 
+-- the kind of an address past device and past local memory
 abbrev pub pastKind : Space → ℕ
 pastKind Space.Device = 2
 pastKind Space.Local = 3
@@ -50,13 +51,16 @@ faultBy (Op.Control o) x y a b = 0
 unfoldable pub faultLanes : ℕ → ℕ → (ℕ → ℕ) → ℕ → ℕ
 faultLanes W t kind k = setOf W (λ i. has t i && eqb (kind i) k)
 
+-- kinds 1 to 4; kind 5 is not told lane by lane
 abbrev pub faults : ℕ → ℕ → ℕ → ℕ → Faults
 faults odd device local divisor =
     record { odd = odd; device = device; local = local; divisor = divisor; barrier = 0 }
 
+-- lane i's kind, of what it read
 abbrev pub kindOf : Instr → Memories → Operands → ℕ → ℕ
 kindOf x y v i = faultBy (x .op) x y (getD (v .a) i 0) (getD (v .b) i 0)
 
+-- every kind with its lanes
 abbrev pub kindsOf : ℕ → ℕ → (ℕ → ℕ) → Faults
 kindsOf W t kind = faults (faultLanes W t kind 1) (faultLanes W t kind 2) (faultLanes W t kind 3) (faultLanes W t kind 4)
 
@@ -64,13 +68,15 @@ kindsOf W t kind = faults (faultLanes W t kind 1) (faultLanes W t kind 2) (fault
 abbrev pub clear : Faults → Bool
 clear f = eqb (f .odd) 0 && eqb (f .device) 0 && eqb (f .local) 0 && eqb (f .divisor) 0 && eqb (f .barrier) 0
 
--- the kinds in rising order, with the lanes of each
+-- a kind with its lanes
 pub record Fault : Type 0 where
   pub kind : ℕ
   pub lanes : ℕ
 
+-- a kind is listed if it has a lane
 abbrev pub note : ℕ → ℕ → List Fault → List Fault
 note kind lanes rest = cond (eqb lanes 0) rest (record { kind = kind; lanes = lanes } ∷ rest)
 
+-- the kinds in rising order, with the lanes of each
 abbrev pub listed : Faults → List Fault
 listed f = note 1 (f .odd) (note 2 (f .device) (note 3 (f .local) (note 4 (f .divisor) (note 5 (f .barrier) []))))

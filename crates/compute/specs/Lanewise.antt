@@ -12,14 +12,17 @@ use Rattle.compute.specs.declared.memory.Change.{Change}
 use Rattle.compute.specs.Registers.{byLane, gatherOf}
 use Rattle.compute.specs.Memory.{wordAt}
 
+-- an operation on the registers a and b
 unfoldable pub twoLanes : TwoOp → Shape → List ℕ → ℕ → ℕ → List ℕ
 twoLanes o shape regs a b =
     byLane (shape .width) (λ i. twoOf o (getD (gatherOf shape regs a) i 0) (getD (gatherOf shape regs b) i 0))
 
+-- a comparison of them, 1 where it holds
 unfoldable pub compareLanes : CompareOp → Shape → List ℕ → ℕ → ℕ → List ℕ
 compareLanes o shape regs a b =
     byLane (shape .width) (λ i. cond (compareOf o (getD (gatherOf shape regs a) i 0) (getD (gatherOf shape regs b) i 0)) 1 0)
 
+-- an operation on the register a
 unfoldable pub oneLanes : OneOp → Shape → List ℕ → ℕ → List ℕ
 oneLanes o shape regs a = byLane (shape .width) (λ i. oneOf o (getD (gatherOf shape regs a) i 0))
 
@@ -32,6 +35,7 @@ abbrev pub changeOf : Change → ℕ → ℕ → ℕ → ℕ
 changeOf (Change.Atomic o) old b c = atomicOf o old b
 changeOf Change.Swap old b c = swapOf old b c
 
+-- by lane i, with its registers b and c
 abbrev pub changeTo : Change → Shape → List ℕ → ℕ → ℕ → ℕ → ℕ → ℕ
 changeTo change shape regs b c i old =
     changeOf change old (getD (gatherOf shape regs b) i 0) (getD (gatherOf shape regs c) i 0)

@@ -9,6 +9,7 @@ use Rattle.words.specs.declared.instr.Space.{Space}
 use Rattle.arith.specs.Arith.{addressOf}
 use Rattle.compute.specs.Registers.{byLane}
 
+-- device and local memory
 pub record Memories : Type 0 where
   pub device : List ℕ
   pub local : List ℕ
@@ -16,6 +17,7 @@ pub record Memories : Type 0 where
 abbrev pub memories : List ℕ → List ℕ → Memories
 memories device local = record { device = device; local = local }
 
+-- the memory that an instruction names
 abbrev pub memoryOf : Space → Memories → List ℕ
 memoryOf Space.Device y = y .device
 memoryOf Space.Local y = y .local

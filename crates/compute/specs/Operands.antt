@@ -30,6 +30,7 @@ pub record Operands : Type 0 where
 abbrev pub gathered : Bool → Shape → List ℕ → ℕ → List ℕ
 gathered used shape regs field = cond used (gatherOf shape regs field) []
 
+-- the fields that `used` says are registers
 abbrev pub operandsBy : Registers → Shape → Instr → List ℕ → Operands
 operandsBy used shape x regs =
     record {
@@ -39,5 +40,6 @@ operandsBy used shape x regs =
       d = gathered (used .rd) shape regs (x .rd);
     }
 
+-- what the lanes read: the registers of the operation
 abbrev pub operandsOf : Shape → Instr → List ℕ → Operands
 operandsOf shape x regs = operandsBy (registersOf (x .op)) shape x regs

@@ -12,6 +12,7 @@ use Rattle.compute.specs.declared.Shape.{Shape}
 unfoldable pub slot : ℕ → ℕ → ℕ → ℕ → ℕ
 slot W R i r = i * R + r
 
+-- the same, by the shape
 abbrev pub slotIn : Shape → ℕ → ℕ → ℕ
 slotIn shape i r = slot (shape .width) (shape .registers) i r
 

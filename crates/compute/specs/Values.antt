@@ -20,13 +20,15 @@ use Rattle.compute.specs.Operands.{Operands}
 abbrev pub specialOf : ℕ → ℕ → ℕ
 specialOf number i = cond (eqb number 0) i (cond (eqb number 1) 0 1)
 
--- what lane i's store, atomic and CAS leave of the word that they found
+-- what a lane's store leaves of the word that it found: its register RD
 abbrev pub storeTo : Operands → ℕ → ℕ → ℕ
 storeTo v i old = getD (v .d) i 0
 
+-- an atomic: the operation on the old word and RS2
 abbrev pub atomicTo : AtomicOp → Operands → ℕ → ℕ → ℕ
 atomicTo o v i old = atomicOf o old (getD (v .b) i 0)
 
+-- CAS: RS3, where the old word is RS2
 abbrev pub swapTo : Operands → ℕ → ℕ → ℕ
 swapTo v i old = swapOf old (getD (v .b) i 0) (getD (v .c) i 0)
 
@@ -51,6 +53,7 @@ resultsOf shape x t y v = byLane (shape .width) (valueBy (x .op) x t y v)
 pub data Target : Type 0 where
   register predicate nothing : Target
 
+-- by operation
 abbrev pub targetBy : Op → Target
 targetBy (Op.Two o) = register
 targetBy (Op.Compare o) = predicate
@@ -63,6 +66,7 @@ targetBy (Op.Atomic o) = register
 targetBy Op.Cas = register
 targetBy (Op.Control o) = nothing
 
+-- the registers afterwards
 abbrev pub regsBy : Target → Shape → ℕ → ℕ → List ℕ → List ℕ → List ℕ
 regsBy register shape d t results regs = writeLanes shape regs d t results
 regsBy predicate shape d t results regs = regs
@@ -72,6 +76,7 @@ regsBy nothing shape d t results regs = regs
 unfoldable pub predicateOf : ℕ → ℕ → ℕ → List ℕ → ℕ
 predicateOf W p t results = bitOr (without p t) (setOf W (λ i. has t i && eqb (getD results i 0) 1))
 
+-- the predicate afterwards
 abbrev pub predicateBy : Target → Shape → ℕ → List ℕ → ℕ → ℕ
 predicateBy register shape t results p = p
 predicateBy predicate shape t results p = predicateOf (shape .width) p t results
