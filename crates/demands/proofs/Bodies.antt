@@ -1,11 +1,12 @@
 -- The body of a history that faults: every number of it is below 2^32, and it is of the layout, so that the key's writer writes it. What
 -- it says of the open blocks is the path read from the steps.
 use mathlib.Core.Path.{_≡_, refl, sym, ap, ap₂, _∙_, subst}
-use mathlib.Core.Bool.{true, false}
+use mathlib.Core.Bool.{true, cond}
 use mathlib.Core.List.{List, map, reverse}
 use Prim.Native.Nat.{ℕ, _≤_, _<_}
 use native.Mathlib.Omega.{arith}
 use borrow.Author.Tests.{leb-true, le-leb}
+use lib.Dec.{leb}
 use lib.ListN.{length}
 use Rattle.lanes.specs.Sets.{bit, first, widest}
 use Rattle.numbers.specs.Numbers.{bound, Small}
@@ -33,8 +34,8 @@ use Rattle.key.specs.Body.{Block as SaidBlock}
 use Rattle.key.specs.Layout.{fitsLayout, longest, faultsFit, blockFits}
 use Rattle.key.proofs.Starts.{fits-of, of-fits, fits-count}
 use Rattle.key.proofs.Written.{length-body}
-use Rattle.keys.specs.declared.answer.KeyAnswer.the-variants.{Wrote}
-use Rattle.keys.specs.Key.{blockOf, kindsOf, blocksOf, partsOf, keyed, bodyKey, outcomeKey, keyOf}
+use Rattle.keys.specs.declared.answer.KeyAnswer.the-variants.{Wrote, Refused}
+use Rattle.keys.specs.Key.{short, blockOf, kindsOf, blocksOf, partsOf, keyed, bodyKey, outcomeKey, keyOf}
 use Rattle.keys.specs.Putting.{kindNumbers}
 use Rattle.keys.proofs.Bodies.{put-small}
 use Rattle.keys.proofs.Kinding.{small-noted, small-kinds}
@@ -44,7 +45,7 @@ use Rattle.demands.specs.History.{blocksAt, lastOf}
 use Rattle.demands.specs.Keys.{Faulted, answerOf, pathOf, Writes}
 use Rattle.demands.proofs.Stopping.{FaultsAt}
 use Rattle.demands.proofs.FaultKinds.{Faulty, step-faulty, kinds-fit, FaultLanes, step-lanes}
-use Rattle.demands.proofs.OpenBlocks.{launched-small, path-sized, path-small, array-long, all-fit}
+use Rattle.demands.proofs.OpenBlocks.{launched-small, AllSized, path-sized, path-small, array-long, all-fit}
 use Rattle.demands.proofs.Histories.{Held, history-held}
 
 -- the blocks that a body says are the wave's, outermost first
@@ -55,8 +56,8 @@ blocks-path w ps = ap (λ (p : List Block). map blockOf (reverse p)) (opened-lai
 -- ---- a machine in order whose instruction faults
 module _ (s : Settings) (code : List ℕ) (l : Launchable s code) (m : Machine) (o : InOrder s code l m) (f : Faults) (x : FaultsAt s code m f)
     (kernel : ℕ) where
-  short : length code ≤ mostWords
-  short = leb-true (length code) mostWords (l .short)
+  few-words : length code ≤ mostWords
+  few-words = leb-true (length code) mostWords (l .short)
 
   there : m .wave .place < length code
   there = inside s code m (x .unended)
@@ -86,12 +87,13 @@ module _ (s : Settings) (code : List ℕ) (l : Launchable s code) (m : Machine) 
   room : length (m .wave .path) ≤ 32
   room = path-room code (s .registers) (s .lanes) (m .wave) (m .preds) (o .fits)
 
-  blocks-sized = path-sized code (s .registers) (s .lanes) (lanes-most s code l) short (m .wave) (m .preds) (o .fits)
+  blocks-sized : AllSized (m .wave .path)
+  blocks-sized = path-sized code (s .registers) (s .lanes) (lanes-most s code l) few-words (m .wave) (m .preds) (o .fits)
 
   -- every number is below 2^32
   pub machine-small : kernel < bound → Small (numbersOf (partsOf kernel f (stateOf (m .wave) (m .preds))))
   machine-small k =
-      put-small kernel f (stateOf (m .wave) (m .preds)) room (array-long (m .wave .path) room) k (omega (arith, there, short))
+      put-small kernel f (stateOf (m .wave) (m .preds)) room (array-long (m .wave .path) room) k (omega (arith, there, few-words))
       (small-kinds f (small-noted 1 (f .odd) (omega arith) (active-small (f .odd) (lanes .odd)))
       (small-noted 2 (f .device) (omega arith) (active-small (f .device) (lanes .device)))
       (small-noted 3 (f .local) (omega arith) (active-small (f .local) (lanes .local)))
@@ -105,8 +107,64 @@ module _ (s : Settings) (code : List ℕ) (l : Launchable s code) (m : Machine) 
   machine-fits =
       of-fits (partsOf kernel f (stateOf (m .wave) (m .preds)))
       (record {
-        place = omega (arith, there, short);
+        place = omega (arith, there, few-words);
         faults = kinds-fit f faulty (x .unclear);
         depth = omega (arith, length-blocks (stateOf (m .wave) (m .preds)), room);
         blocks = ap (λ (p : List SaidBlock). allOf blockFits p) (blocks-path (m .wave) (m .preds)) ∙ all-fit (m .wave .path) blocks-sized;
       })
+
+-- ---- a history that faults
+module _ (h : Faulted) where
+  held : Held (h .calls)
+  held = history-held (h .calls) (h .history)
+
+  abbrev machine : Machine
+  machine = held .holds .machine
+
+  stops : FaultsAt (h .calls .settings) (h .calls .code) machine (h .faults)
+  stops = held .holds .stops (h .faults) (h .outcome)
+
+  -- EVERY NUMBER of its body is below 2^32
+  pub body-small : Small (numbersOf (partsOf (h .kernel) (h .faults) (answerOf h .state)))
+  body-small =
+      subst (λ (z : State). Small (numbersOf (partsOf (h .kernel) (h .faults) z))) (sym (held .holds .state))
+      (machine-small (h .calls .settings) (h .calls .code) (held .launch) machine (held .holds .order) (h .faults) stops (h .kernel) (h .number))
+
+  -- ITS BODY is of the layout
+  pub body-fits : fitsLayout (partsOf (h .kernel) (h .faults) (answerOf h .state)) ≡ true
+  body-fits =
+      ap (λ (z : State). fitsLayout (partsOf (h .kernel) (h .faults) z)) (held .holds .state)
+      ∙ machine-fits (h .calls .settings) (h .calls .code) (held .launch) machine (held .holds .order) (h .faults) stops (h .kernel)
+
+  -- ITS BLOCKS are the path read from the steps
+  pub body-path : blocksOf (answerOf h .state) ≡ map blockOf (pathOf h)
+  body-path =
+      ap blocksOf (held .holds .state) ∙ blocks-path (machine .wave) (machine .preds)
+      ∙ ap (λ (p : List Block). map blockOf (reverse p)) (sym (held .holds .told .reads .path))
+
+  -- no body is longer than the longest
+  body-long : length (bytesOfBody (partsOf (h .kernel) (h .faults) (answerOf h .state))) ≤ longest
+  body-long =
+      let p : Parts = partsOf (h .kernel) (h .faults) (answerOf h .state) in
+      let z = fits-of p body-fits in
+      omega (arith, length-body p, fits-count p z, z .depth)
+
+  -- THE WRITER never answers 14: it writes the body where it fits, and else answers 13
+  pub body-or-short : (out : List ℕ)
+      → keyOf (h .kernel) (answerOf h) out
+      ≡ cond (leb (length (bytesOfBody (partsOf (h .kernel) (h .faults) (answerOf h .state)))) (length out))
+      (keyed (Wrote (length (bytesOfBody (partsOf (h .kernel) (h .faults) (answerOf h .state)))))
+      (placed out 0 (bytesOfBody (partsOf (h .kernel) (h .faults) (answerOf h .state)))))
+      (keyed (Refused short 0) out)
+  unfolding keyOf outcomeKey bodyKey
+  body-or-short out = ap (λ (x : Outcome). outcomeKey (h .kernel) x (answerOf h .state) out) (h .outcome) ∙ rw body-fits
+
+  -- so that it writes a key wherever it is lent room for the longest
+  pub always-writes : (out : List ℕ) → longest ≤ length out → Writes h out
+  always-writes out r =
+      let p : Parts = partsOf (h .kernel) (h .faults) (answerOf h .state) in
+      record {
+        size = length (bytesOfBody p);
+        now = placed out 0 (bytesOfBody p);
+        wrote = sym (body-or-short out ∙ rw (le-leb (length (bytesOfBody p)) (length out) (omega (arith, body-long, r))));
+      }

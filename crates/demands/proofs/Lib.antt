@@ -5,3 +5,4 @@ pub mod Histories
 pub mod FaultKinds
 pub mod OpenBlocks
 pub mod Bodies
+pub mod Agreeing
