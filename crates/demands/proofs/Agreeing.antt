@@ -1,13 +1,13 @@
 -- Two histories that fault have the same body exactly if they agree in all that the page names: the body's parts come back from its bytes,
 -- since each number has its four bytes, and what the body says of the blocks is the path read from the steps.
-use mathlib.Core.Path.{_≡_, refl, sym, ap, ap₂, _∙_}
+use mathlib.Core.Path.{_≡_, refl, sym, ap, _∙_}
 use mathlib.Core.Bool.{true}
 use mathlib.Core.List.{List, [], _∷_, map}
 use mathlib.Core.Logic.{_↔_}
 use Prim.Native.Nat.{ℕ}
 use Rattle.wave.specs.declared.state.Block.{Block}
 use Rattle.compute.specs.declared.Faults.{Faults}
-use Rattle.key.specs.Body.{Block as SaidBlock, Parts, bytesOfBody}
+use Rattle.key.specs.Body.{Block as SaidBlock, bytesOfBody}
 use Rattle.key.specs.Layout.{isBody}
 use Rattle.key.proofs.Written.{written-body}
 use Rattle.keys.specs.Key.{blockOf, kindsOf, partsOf}
@@ -15,7 +15,7 @@ use Rattle.keys.proofs.Theorems.{key-written, Same, same-key, key-same}
 use Rattle.demands.specs.Keys.{Faulted, answerOf, pathOf, Agree, Writes, bodyOf}
 use Rattle.demands.proofs.Stopping.{same-faults}
 use Rattle.demands.proofs.FaultKinds.{one-faults}
-use Rattle.demands.proofs.Bodies.{body-small, body-fits, body-path}
+use Rattle.demands.proofs.Bodies.{said, body-small, body-fits, body-path}
 
 -- ---- a path is told by its blocks as a body has them
 abbrev openBlock : SaidBlock → Block
@@ -56,7 +56,7 @@ module _ (h h′ : Faulted) where
       }
 
 -- the bytes that the writer gave are those of the parts
-body-bytes : (h : Faulted) (out : List ℕ) (w : Writes h out) → bodyOf w ≡ bytesOfBody (partsOf (h .kernel) (h .faults) (answerOf h .state))
+body-bytes : (h : Faulted) (out : List ℕ) (w : Writes h out) → bodyOf w ≡ bytesOfBody (said h)
 body-bytes h out w =
     let k = key-written (h .kernel) (w .size) (answerOf h) (w .now) out (w .wrote) in
     k .key .bytes
@@ -66,19 +66,18 @@ body-bytes h out w =
 -- THEOREM: the body that the key's writer gives for a history that faults is of the layout
 pub body-of-layout : (h : Faulted) (out : List ℕ) (w : Writes h out) → isBody (bodyOf w) ≡ true
 body-of-layout h out w =
-    let p : Parts = partsOf (h .kernel) (h .faults) (answerOf h .state) in
-    written-body (bodyOf w) (record { parts = p; small = body-small h; fits = body-fits h; bytes = sym (body-bytes h out w) })
+    written-body (bodyOf w) (record { parts = said h; small = body-small h; fits = body-fits h; bytes = sym (body-bytes h out w) })
 
 -- THEOREM: for two histories that fault, the bodies that the key's writer gives are the same bytes exactly if kernel number, place,
 -- faulting lanes by kind, active lanes, halted lanes and the path read from the steps agree
 pub bodies-agree : (h h′ : Faulted) (out out′ : List ℕ) (w : Writes h out) (w′ : Writes h′ out′) → (bodyOf w ≡ bodyOf w′) ↔ Agree h h′
 bodies-agree h h′ out out′ w w′ = (
   (λ e.
-  same-agree h h′
-  (key-same (h .kernel) (h′ .kernel) (h .faults) (h′ .faults) (answerOf h .state) (answerOf h′ .state) (body-small h) (body-small h′)
-  (sym (body-bytes h out w) ∙ e ∙ body-bytes h′ out′ w′))),
+      same-agree h h′
+      (key-same (h .kernel) (h′ .kernel) (h .faults) (h′ .faults) (answerOf h .state) (answerOf h′ .state) (body-small h) (body-small h′)
+      (sym (body-bytes h out w) ∙ e ∙ body-bytes h′ out′ w′))),
   (λ a.
-  body-bytes h out w
-  ∙ same-key (h .kernel) (h′ .kernel) (h .faults) (h′ .faults) (answerOf h .state) (answerOf h′ .state) (agree-same h h′ a)
-  ∙ sym (body-bytes h′ out′ w′)),
+      body-bytes h out w
+      ∙ same-key (h .kernel) (h′ .kernel) (h .faults) (h′ .faults) (answerOf h .state) (answerOf h′ .state) (agree-same h h′ a)
+      ∙ sym (body-bytes h′ out′ w′)),
 )

@@ -1,6 +1,6 @@
 -- The body of a history that faults: every number of it is below 2^32, and it is of the layout, so that the key's writer writes it. What
 -- it says of the open blocks is the path read from the steps.
-use mathlib.Core.Path.{_≡_, refl, sym, ap, ap₂, _∙_, subst}
+use mathlib.Core.Path.{_≡_, sym, ap, _∙_, subst}
 use mathlib.Core.Bool.{true, cond}
 use mathlib.Core.List.{List, map, reverse}
 use Prim.Native.Nat.{ℕ, _≤_, _<_}
@@ -8,13 +8,14 @@ use native.Mathlib.Omega.{arith}
 use borrow.Author.Tests.{leb-true, le-leb}
 use lib.Dec.{leb}
 use lib.ListN.{length}
-use Rattle.lanes.specs.Sets.{bit, first, widest}
+use Rattle.ground.specs.Tests.{allOf}
+use Rattle.lanes.specs.Sets.{bit, first}
 use Rattle.numbers.specs.Numbers.{bound, Small}
 use Rattle.numbers.specs.Placed.{placed}
+use Rattle.words.specs.Fetching.{instrAt}
 use Rattle.wave.specs.declared.state.Block.{Block}
 use Rattle.wave.specs.declared.state.State.{State}
 use Rattle.wave.specs.Wave.{Wave, Preds, stateOf}
-use Rattle.wave.specs.Layout.{opened, arrayOf}
 use Rattle.wave.proofs.AtLane.{launched, fits-lanes}
 use Rattle.wave.proofs.Keeps.{active-launched}
 use Rattle.wave.proofs.Laying.{opened-laid}
@@ -23,25 +24,18 @@ use Rattle.compute.specs.declared.Faults.{Faults}
 use Rattle.replay.specs.declared.settings.Settings.{Settings}
 use Rattle.replay.specs.declared.answers.Outcome.{Outcome}
 use Rattle.replay.specs.Machine.{Machine}
-use Rattle.replay.specs.Run.{stepAt}
-use Rattle.words.specs.Fetching.{instrAt}
 use Rattle.replay.specs.Replay.{mostWords}
 use Rattle.replay.proofs.Keeping.{inside}
 use Rattle.replay.proofs.Returns.{Launchable, lanes-most, InOrder}
-use Rattle.key.specs.Body.{Parts, numbersOf, bytesOfBody}
-use Rattle.ground.specs.Tests.{allOf}
-use Rattle.key.specs.Body.{Block as SaidBlock}
-use Rattle.key.specs.Layout.{fitsLayout, longest, faultsFit, blockFits}
+use Rattle.key.specs.Body.{Block as SaidBlock, Parts, numbersOf, bytesOfBody}
+use Rattle.key.specs.Layout.{mostDepth, longest, blockFits, fitsLayout}
 use Rattle.key.proofs.Starts.{fits-of, of-fits, fits-count}
 use Rattle.key.proofs.Written.{length-body}
 use Rattle.keys.specs.declared.answer.KeyAnswer.the-variants.{Wrote, Refused}
-use Rattle.keys.specs.Key.{short, blockOf, kindsOf, blocksOf, partsOf, keyed, bodyKey, outcomeKey, keyOf}
-use Rattle.keys.specs.Putting.{kindNumbers}
+use Rattle.keys.specs.Key.{short, blockOf, blocksOf, partsOf, keyed, bodyKey, outcomeKey, keyOf}
 use Rattle.keys.proofs.Bodies.{put-small}
 use Rattle.keys.proofs.Kinding.{small-noted, small-kinds}
 use Rattle.keys.proofs.Paths.{length-blocks}
-use Rattle.demands.specs.Path.{pathFrom}
-use Rattle.demands.specs.History.{blocksAt, lastOf}
 use Rattle.demands.specs.Keys.{Faulted, answerOf, pathOf, Writes}
 use Rattle.demands.proofs.Stopping.{FaultsAt}
 use Rattle.demands.proofs.FaultKinds.{Faulty, step-faulty, kinds-fit, FaultLanes, step-lanes}
@@ -84,14 +78,14 @@ module _ (s : Settings) (code : List ℕ) (l : Launchable s code) (m : Machine) 
             (fits-lanes (s .lanes) (m .wave) (m .preds) (o .fits .sets) .0 i),
       ))
 
-  room : length (m .wave .path) ≤ 32
+  room : length (m .wave .path) ≤ mostDepth
   room = path-room code (s .registers) (s .lanes) (m .wave) (m .preds) (o .fits)
 
   blocks-sized : AllSized (m .wave .path)
   blocks-sized = path-sized code (s .registers) (s .lanes) (lanes-most s code l) few-words (m .wave) (m .preds) (o .fits)
 
   -- every number is below 2^32
-  pub machine-small : kernel < bound → Small (numbersOf (partsOf kernel f (stateOf (m .wave) (m .preds))))
+  machine-small : kernel < bound → Small (numbersOf (partsOf kernel f (stateOf (m .wave) (m .preds))))
   machine-small k =
       put-small kernel f (stateOf (m .wave) (m .preds)) room (array-long (m .wave .path) room) k (omega (arith, there, few-words))
       (small-kinds f (small-noted 1 (f .odd) (omega arith) (active-small (f .odd) (lanes .odd)))
@@ -102,7 +96,7 @@ module _ (s : Settings) (code : List ℕ) (l : Launchable s code) (m : Machine) 
       (active-small (m .wave .active) (λ i. omega arith)) halted-small (path-small (m .wave .path) blocks-sized)
 
   -- the body is of the layout
-  pub machine-fits : fitsLayout (partsOf kernel f (stateOf (m .wave) (m .preds))) ≡ true
+  machine-fits : fitsLayout (partsOf kernel f (stateOf (m .wave) (m .preds))) ≡ true
   unfolding partsOf
   machine-fits =
       of-fits (partsOf kernel f (stateOf (m .wave) (m .preds)))
@@ -114,6 +108,11 @@ module _ (s : Settings) (code : List ℕ) (l : Launchable s code) (m : Machine) 
       })
 
 -- ---- a history that faults
+
+-- what its body says
+abbrev pub said : Faulted → Parts
+said h = partsOf (h .kernel) (h .faults) (answerOf h .state)
+
 module _ (h : Faulted) where
   held : Held (h .calls)
   held = history-held (h .calls) (h .history)
@@ -125,13 +124,13 @@ module _ (h : Faulted) where
   stops = held .holds .stops (h .faults) (h .outcome)
 
   -- EVERY NUMBER of its body is below 2^32
-  pub body-small : Small (numbersOf (partsOf (h .kernel) (h .faults) (answerOf h .state)))
+  pub body-small : Small (numbersOf (said h))
   body-small =
       subst (λ (z : State). Small (numbersOf (partsOf (h .kernel) (h .faults) z))) (sym (held .holds .state))
       (machine-small (h .calls .settings) (h .calls .code) (held .launch) machine (held .holds .order) (h .faults) stops (h .kernel) (h .number))
 
   -- ITS BODY is of the layout
-  pub body-fits : fitsLayout (partsOf (h .kernel) (h .faults) (answerOf h .state)) ≡ true
+  pub body-fits : fitsLayout (said h) ≡ true
   body-fits =
       ap (λ (z : State). fitsLayout (partsOf (h .kernel) (h .faults) z)) (held .holds .state)
       ∙ machine-fits (h .calls .settings) (h .calls .code) (held .launch) machine (held .holds .order) (h .faults) stops (h .kernel)
@@ -143,28 +142,24 @@ module _ (h : Faulted) where
       ∙ ap (λ (p : List Block). map blockOf (reverse p)) (sym (held .holds .told .reads .path))
 
   -- no body is longer than the longest
-  body-long : length (bytesOfBody (partsOf (h .kernel) (h .faults) (answerOf h .state))) ≤ longest
+  body-long : length (bytesOfBody (said h)) ≤ longest
   body-long =
-      let p : Parts = partsOf (h .kernel) (h .faults) (answerOf h .state) in
-      let z = fits-of p body-fits in
-      omega (arith, length-body p, fits-count p z, z .depth)
+      let z = fits-of (said h) body-fits in
+      omega (arith, length-body (said h), fits-count (said h) z, z .depth)
 
   -- THE WRITER never answers 14: it writes the body where it fits, and else answers 13
   pub body-or-short : (out : List ℕ)
       → keyOf (h .kernel) (answerOf h) out
-      ≡ cond (leb (length (bytesOfBody (partsOf (h .kernel) (h .faults) (answerOf h .state)))) (length out))
-      (keyed (Wrote (length (bytesOfBody (partsOf (h .kernel) (h .faults) (answerOf h .state)))))
-      (placed out 0 (bytesOfBody (partsOf (h .kernel) (h .faults) (answerOf h .state)))))
-      (keyed (Refused short 0) out)
+      ≡ cond (leb (length (bytesOfBody (said h))) (length out))
+      (keyed (Wrote (length (bytesOfBody (said h)))) (placed out 0 (bytesOfBody (said h)))) (keyed (Refused short 0) out)
   unfolding keyOf outcomeKey bodyKey
   body-or-short out = ap (λ (x : Outcome). outcomeKey (h .kernel) x (answerOf h .state) out) (h .outcome) ∙ rw body-fits
 
   -- so that it writes a key wherever it is lent room for the longest
   pub always-writes : (out : List ℕ) → longest ≤ length out → Writes h out
   always-writes out r =
-      let p : Parts = partsOf (h .kernel) (h .faults) (answerOf h .state) in
       record {
-        size = length (bytesOfBody p);
-        now = placed out 0 (bytesOfBody p);
-        wrote = sym (body-or-short out ∙ rw (le-leb (length (bytesOfBody p)) (length out) (omega (arith, body-long, r))));
+        size = length (bytesOfBody (said h));
+        now = placed out 0 (bytesOfBody (said h));
+        wrote = sym (body-or-short out ∙ rw (le-leb (length (bytesOfBody (said h))) (length out) (omega (arith, body-long, r))));
       }

@@ -1,17 +1,17 @@
 -- The kinds of a fault: they are of the layout, their lanes were launched, and the list of kinds with their lanes tells the lanes of each.
 -- An instruction faults by its lanes' work, or at a barrier, where nothing else faults.
-use mathlib.Core.Path.{_≡_, refl, sym, ap, _∙_, subst}
+use mathlib.Core.Path.{_≡_, refl, sym, ap, _∙_}
 use mathlib.Core.Bool.{Bool, true, false, cond}
 use mathlib.Core.List.{List, [], _∷_, map}
-use Prim.Native.Nat.{ℕ, _+_, _≤_, _<_}
-use native.Mathlib.Nat.{zero-add, add-zero}
+use Prim.Native.Nat.{ℕ, _+_, _≤_}
+use native.Mathlib.Nat.{zero-add}
 use native.Mathlib.Omega.{arith}
 use borrow.Author.Tests.{eqb-true, eq-eqb}
 use lib.Bits.{bitAnd}
 use lib.Dec.{eqb}
 use Rattle.ground.specs.Tests.{sameList, oneOf, allOf}
 use Rattle.ground.proofs.Bools.{never}
-use Rattle.lanes.specs.Sets.{bit, has, first}
+use Rattle.lanes.specs.Sets.{bit, has}
 use Rattle.lanes.proofs.Bits.{bit-zero}
 use Rattle.lanes.proofs.Members.{bit-has}
 use Rattle.words.specs.declared.instr.ControlOp.{ControlOp}
@@ -25,13 +25,13 @@ use Rattle.wave.specs.Rules.{barred}
 use Rattle.wave.specs.Control.{faultLanes}
 use Rattle.wave.proofs.Guards.{executing-within}
 use Rattle.compute.specs.declared.Faults.{Faults}
-use Rattle.compute.specs.Faulting.{Fault, faults, clear, note, listed}
+use Rattle.compute.specs.Faulting.{Fault, faults, clear, note}
 use Rattle.compute.specs.Carrying.{Outcome}
 use Rattle.compute.proofs.Carrying.{control}
-use Rattle.compute.proofs.FaultLanes.{Within, Form, at-device, at-local, dividing, Executing, fault-executes, fault-form}
+use Rattle.compute.proofs.FaultLanes.{Within, Form, at-device, at-local, dividing, fault-executes, fault-form}
 use Rattle.replay.specs.declared.settings.Settings.{Settings}
 use Rattle.replay.specs.Machine.{Machine, named}
-use Rattle.replay.specs.Step.{shapeOf, launchedOf, lanesOf, computed, barrierBy, noFaults, withBarrier, faultsIn, stepOf}
+use Rattle.replay.specs.Step.{shapeOf, launchedOf, lanesOf, computed, barrierBy, noFaults, withBarrier, stepOf}
 use Rattle.key.specs.Body.{Fault as Said}
 use Rattle.key.specs.Layout.{apart, kindLists, faultsFit}
 use Rattle.keys.specs.Key.{faultOf, kindsOf}

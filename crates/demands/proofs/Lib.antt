@@ -6,3 +6,4 @@ pub mod FaultKinds
 pub mod OpenBlocks
 pub mod Bodies
 pub mod Agreeing
+pub mod Example

@@ -61,8 +61,7 @@ module _ (code : List ℕ) (registers n : ℕ) (wide : n ≤ widest) (short : le
   sized h m (b ∷ p) [] s r f q = absurd s
   sized h m (b ∷ p) (open-at part at ∷ o) s r f q =
       let k = part-sized part in
-      let inside : at < length code = r .0 .in-code in
-      (
+      let inside : at < length code = r .0 .in-code in (
         record {
           some = omega (arith, s .0, k .0);
           few = omega (arith, s .0, k .1);

@@ -85,7 +85,7 @@ blocksAt (fromState state) = waveIn state .path
 abbrev pub lastOf : Calls → Point
 lastOf c = furtherBy (c .settings) (c .code) (c .budgets) (firstAt (c .start) c)
 
--- a history: no call is refused
+-- a history: the first call passes its tests and the budgets of the resumes are allowed, so that no call is refused
 pub record History (c : Calls) : Type 0 where
   pub first : testAt (c .start) c ≡ Fine
   pub later : Allowed (c .budgets)

@@ -9,7 +9,6 @@ use Rattle.wave.specs.declared.state.Hot.{Hot}
 use Rattle.compute.specs.declared.Faults.{Faults}
 use Rattle.replay.specs.declared.answers.Outcome.{Outcome}
 use Rattle.replay.specs.declared.answers.Replayed.{Replayed}
-use Rattle.replay.specs.Replay.{Answered}
 use Rattle.keys.specs.declared.answer.KeyAnswer.the-variants.{Wrote}
 use Rattle.keys.specs.Key.{keyed, keyOf}
 use Rattle.demands.specs.Path.{pathFrom}
