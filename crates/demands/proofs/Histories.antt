@@ -95,7 +95,8 @@ module _ (s : Settings) (code : List ℕ) (l : Launchable s code) (bs : List Blo
               long = run-long (budgeted b s) code b m ∙ o .long;
             };
         told = run-told code (s .registers) (l .checked) short (budgeted b s) (s .lanes) bs b m es (o .fits) r;
-        stops = λ f e. let z = run-stops (budgeted b s) code f b m e in record { unended = z .unended; unclear = z .unclear; faults = z .faults };
+        stops =
+            λ f e. let z = run-stops (budgeted b s) code f b m e in record { unended = z .unended; unclear = z .unclear; faults = z .faults };
       }
 
   roomy : (m : Machine) → InOrder s code l m → stateMachine (stateOf (m .wave) (m .preds)) (m .regs) (m .memories .device) (m .memories .local) ≡ m
@@ -141,7 +142,7 @@ module _ (s : Settings) (code : List ℕ) (l : Launchable s code) (bs : List Blo
         back = subst (λ (w : Wave). EachHandsBack bs (w .active) (p .steps)) (sym (wave-is p d)) (d .told .handed);
       }
 
--- a history whose calls were not refused, and what its answer holds
+-- what the last answer of a history holds
 pub record Held (c : Calls) : Type 0 where
   pub launch : Launchable (c .settings) (c .code)
   pub holds : Holds (c .settings) (c .code) launch (blocksAt (c .start)) (lastOf c)
@@ -176,6 +177,10 @@ module _ (s : Settings) (code regs device local : List ℕ) (budgets : List ℕ)
       (sym (resumed s code regs device local state e)) (run-holds s code l bs (s .budget) m [] o (told-none (m .wave))) in
       record { launch = l; holds = history-holds s code l bs budgets (afterResume s state code regs device local) allowed start }
 
+  held : (start : Start) → testAt start (calls start) ≡ Fine → Held (calls start)
+  held byLaunch e = launch-held e
+  held (fromState state) e = resume-held state e
+
   -- FROM A LAUNCH: from the steps alone
   pub launch-tells : launchTest s code regs ≡ Fine → Tells [] (furtherBy s code budgets (afterLaunch s code regs device local))
   launch-tells e =
@@ -189,10 +194,5 @@ module _ (s : Settings) (code regs device local : List ℕ) (budgets : List ℕ)
       let h = resume-held state e in
       tells s code (h .launch) (waveIn state .path) (furtherBy s code budgets (afterResume s state code regs device local)) (h .holds)
 
--- either way
-held-by : (start : Start) (c : Calls) → testAt start c ≡ Fine → Allowed (c .budgets) → Held (record { settings = c .settings; start = start; code = c .code; regs = c .regs; device = c .device; local = c .local; budgets = c .budgets })
-held-by byLaunch c t a = launch-held (c .settings) (c .code) (c .regs) (c .device) (c .local) (c .budgets) a t
-held-by (fromState state) c t a = resume-held (c .settings) (c .code) (c .regs) (c .device) (c .local) (c .budgets) a state t
-
 pub history-held : (c : Calls) → History c → Held c
-history-held c h = held-by (c .start) c (h .first) (h .later)
+history-held c h = held (c .settings) (c .code) (c .regs) (c .device) (c .local) (c .budgets) (h .later) (c .start) (h .first)

@@ -68,20 +68,22 @@ pub record Calls : Type 0 where
   pub local : List ℕ
   pub budgets : List ℕ
 
--- what the first call tests, where it leads, and the blocks that were open before it
+-- what the first call tests
 abbrev pub testAt : Start → Calls → Checked
 testAt byLaunch c = launchTest (c .settings) (c .code) (c .regs)
 testAt (fromState state) c = resumeTest (c .settings) state (c .code) (c .regs)
 
+-- where it leads
 abbrev pub firstAt : Start → Calls → Point
 firstAt byLaunch c = afterLaunch (c .settings) (c .code) (c .regs) (c .device) (c .local)
 firstAt (fromState state) c = afterResume (c .settings) state (c .code) (c .regs) (c .device) (c .local)
 
+-- the blocks that were open before it
 abbrev pub blocksAt : Start → List Block
 blocksAt byLaunch = []
 blocksAt (fromState state) = waveIn state .path
 
--- where all of them lead
+-- where all the calls lead
 abbrev pub lastOf : Calls → Point
 lastOf c = furtherBy (c .settings) (c .code) (c .budgets) (firstAt (c .start) c)
 
