@@ -11,6 +11,9 @@ second pack TEXT FILE            packs a readable capture into a file
 second show FILE                 prints a capture file as readable text
 second replay FILE [OUT] [KEY]   replays a capture: a report, the end state, a fault's key
 second cases SEED COUNT          writes random cases; SEED is a number or new
+second cases named               writes the runs that have a name
+second cases stored              writes those, then 450 random cases of seed 256
+second names                     prints the numbers and names of the named runs
 second answers                   answers the cases on standard input
 second compare CASES ANSWERS     compares another program's answers with its own
 second reached CASES             prints how often cases reach each thing; fails where never
@@ -32,6 +35,9 @@ fn main() -> ExitCode {
         ["replay", file, out] => commands::replay(file, Some(out), None),
         ["replay", file, out, key] => commands::replay(file, Some(out), Some(key)),
         ["cases", seed, count] => cases::cases(seed, count),
+        ["cases", "named"] => cases::named(),
+        ["cases", "stored"] => cases::stored(),
+        ["names"] => cases::names(),
         ["answers"] => cases::answers(),
         ["compare", cases, answers] => cases::compare(cases, answers),
         ["reached", cases] => cases::reached(cases),
