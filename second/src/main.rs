@@ -22,6 +22,10 @@ second extract CASES NUMBER FILE writes the capture of a run among the cases
 second against SEED COUNT PROGRAM [ARGUMENT..]
                                  hands random cases to a program and compares its answers
 second bench                     prints the time per step of two interpreters
+second bench files PROGRAM [ARGUMENT..]
+                                 and of a program that takes CAPTURE OUT, as second replay does
+second bench cases PROGRAM [ARGUMENT..]
+                                 and of a program that answers cases, as second answers does
 second kernels FOLDER BUDGET     writes the captures of the timed kernels
 ";
 
@@ -47,6 +51,7 @@ fn main() -> ExitCode {
             cases::against(seed, count, program)
         }
         ["bench"] => bench::bench(),
+        ["bench", way, ref program @ ..] if !program.is_empty() => bench::against(way, program),
         ["kernels", folder, budget] => bench::write_kernels(folder, budget),
         ["help"] => commands::say(HELP),
         _ => Err(format!("expected one of\n{HELP}").trim_end().to_string()),
