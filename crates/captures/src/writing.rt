@@ -9,8 +9,6 @@ use crate::answer::WriteAnswer;
 use numbers::put;
 ghost use mathlib.Core.Path.{_≡_};
 ghost use mathlib.Core.Bool.{true};
-ghost use Prim.Native.Nat.{_+_, _*_, _≤_};
-ghost use lib.ListN.{length};
 ghost use Rattle.numbers.specs.Numbers.{bytesOfAll};
 ghost use Rattle.numbers.specs.Placed.{placed};
 ghost use Rattle.captures.specs.Capture.{captured, captureOf, stateFits, fits};
@@ -24,14 +22,16 @@ const NOT_OF_LAYOUT: u32 = 14;
 // The bound of a number of four bytes.
 const BOUND: usize = 4294967296;
 
-// Puts words into `file` from `at` on.
+// Puts words into `file` from `at` on, as far as they fit.
 fn give_words(words: &[u32], at: usize, file: &mut [u8])
-    requires { ⌜ at + 4 * length (now words) ≤ length (now file) ⌝ }
     ensures { λ _. ⌜ now (file .exit) ≡ placed (now (file .entry)) at (bytesOfAll (now (words .entry))) ⌝ }
 {
     let mut k: usize = 0;
     let mut p = at;
     while k < words.len() {
+        if file.len() <= p {
+            return;
+        }
         put(file, p, words[k]);
         p += 4;
         k += 1;
@@ -48,9 +48,9 @@ fn state_fits(state: &[u32]) -> bool
     state.len() == STATE_WORDS + BLOCK_WORDS * (state[6] as usize)
 }
 
-// Puts the file of these parts at the front of `file`.
+// Puts the file of these parts at the front of `file`, as far as it fits.
 fn give_parts(head: Head, code: &[u32], registers: &[u32], device: &[u32], local: &[u32], state: &[u32], file: &mut [u8])
-    requires { ⌜ (fits (captured head (now code) (now registers) (now device) (now local) (now state)) ≡ true) × (length (captureOf (captured head (now code) (now registers) (now device) (now local) (now state))) ≤ length (now file)) ⌝ }
+    requires { ⌜ fits (captured head (now code) (now registers) (now device) (now local) (now state)) ≡ true ⌝ }
     ensures { λ _. ⌜ now (file .exit) ≡ placed (now (file .entry)) 0 (captureOf (captured head (now (code .entry)) (now (registers .entry)) (now (device .entry)) (now (local .entry)) (now (state .entry)))) ⌝ }
 {
     let header = [

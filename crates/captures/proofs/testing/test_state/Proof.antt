@@ -1,73 +1,62 @@
+-- The tests one after another; a depth that a count of four bytes gives is small.
+use native.Mathlib.Omega.{arith}
+use Rattle.captures.proofs.Tested.{depth-small, state-tested}
 use borrow.Author.Needs.{needs}
 use Rattle.captures.proofs.testing.test_state.Statement.{statement}
 use Rattle.captures.proofs.testing.test_state.Tie as tie
-use Rattle.captures.proofs.testing.test_state.Reads as reads
-use Rattle.captures.proofs.testing.test_state.Lts as lts
-use Rattle.captures.proofs.testing.depth_of.Reads as depth-of-reads
-use Rattle.captures.proofs.testing.next.Reads as next-reads
-use Rattle.captures.proofs.testing.places_of.Reads as places-of-reads
-use Rattle.captures.proofs.testing.smaller.Reads as smaller-reads
-use Rattle.numbers.proofs.get.Reads as get-reads
 
--- src/testing.rt:123:17
 get-requires : tie.Need-get-requires
 get-requires c κs = search needs
 
--- src/testing.rt:123:17
 cast-count : tie.Need-cast-count
 cast-count c = search needs
 
--- src/testing.rt:124:9
 depth-of-requires : tie.Need-depth-of-requires
 depth-of-requires c κs = search needs
 
--- src/testing.rt:125:9
 places-of-requires : tie.Need-places-of-requires
 places-of-requires c κs = search needs
 
--- src/testing.rt:128:48
 mul-next : tie.Need-mul-next
-mul-next c = ?
+mul-next c = let z = depth-small _ _ (c .before .depth-of .ensures) (omega (arith, c .before .before .get .ok)) in omega arith
 
--- src/testing.rt:128:34
 add-next : tie.Need-add-next
-add-next c = ?
+add-next c = let z = depth-small _ _ (c .before .depth-of .ensures) (omega (arith, c .before .before .get .ok)) in omega arith
 
--- src/testing.rt:126:9
 next-requires : tie.Need-next-requires
 next-requires c κs = search needs
 
--- src/testing.rt:132:29
 get-requires-2 : tie.Need-get-requires-2
 get-requires-2 c κs = search needs
 
--- src/testing.rt:132:9
 next-requires-2 : tie.Need-next-requires-2
 next-requires-2 c κs = search needs
 
--- src/testing.rt:133:63
 smaller-requires : tie.Need-smaller-requires
 smaller-requires c κs = search needs
 
--- src/testing.rt:133:9
 next-requires-3 : tie.Need-next-requires-3
 next-requires-3 c κs = search needs
 
--- src/testing.rt:136:25
 get-requires-3 : tie.Need-get-requires-3
 get-requires-3 c κs = search needs
 
--- src/testing.rt:136:25
 cast-next : tie.Need-cast-next
 cast-next c = search needs
 
--- src/testing.rt:134:5
 next-requires-4 : tie.Need-next-requires-4
 next-requires-4 c κs = search needs
 
--- src/testing.rt:120:1
 returns : tie.Need-returns
-returns c = ?
+returns c =
+    state-tested _ _ _ _ _ (c .before .before .before .before .before .before .before .before .before .before .get .ensures) (c .before .before .before .before .before .before .before .before .before .depth-of .ensures) (c .before .before .before .before .before .before .before .before .places-of .ensures) _ _ _ _ _ _ _
+    (c .before .before .before .before .before .before .before .next .ensures)
+    (c .before .before .before .before .before .before .get2 .ensures)
+    (c .before .before .before .before .before .next2 .ensures)
+    (c .before .before .before .smaller .ensures)
+    (c .before .before .next3 .ensures)
+    (c .before .get3 .ensures)
+    (c .next4 .ensures)
 
 pub test-state-spec : {M : Type 1} → statement M
 test-state-spec =

@@ -63,27 +63,27 @@ slice-aggregate-give-words c = search needs
 
 -- src/writing.rt:75:5
 give-words-requires : tie.Need-give-words-requires
-give-words-requires c κs = ?
+give-words-requires c κs = search needs
 
 -- src/writing.rt:76:5
 give-words-requires-2 : tie.Need-give-words-requires-2
-give-words-requires-2 c κs = ?
+give-words-requires-2 c κs = search needs
 
 -- src/writing.rt:77:5
 give-words-requires-3 : tie.Need-give-words-requires-3
-give-words-requires-3 c κs = ?
+give-words-requires-3 c κs = search needs
 
 -- src/writing.rt:78:5
 give-words-requires-4 : tie.Need-give-words-requires-4
-give-words-requires-4 c κs = ?
+give-words-requires-4 c κs = search needs
 
 -- src/writing.rt:79:5
 give-words-requires-5 : tie.Need-give-words-requires-5
-give-words-requires-5 c κs = ?
+give-words-requires-5 c κs = search needs
 
 -- src/writing.rt:80:5
 give-words-requires-6 : tie.Need-give-words-requires-6
-give-words-requires-6 c κs = ?
+give-words-requires-6 c κs = search needs
 
 -- src/writing.rt:52:1
 same-length : tie.Need-same-length
