@@ -94,9 +94,10 @@ module _ (c : Capture) (o : List ℕ) where
   unfolding writeOf
   write-not e = rw e
 
-  pub write-short : fits c ≡ true → length o < length (captureOf c) → wrote (Refused short 0) o ≡ writeOf c o
+  pub write-short : fits c ≡ true → length o < headerBytes + 4 * (length (c .code) + length (c .registers) + length (c .device) + length (c .local) + length (c .state))
+      → wrote (Refused short 0) o ≡ writeOf c o
   unfolding writeOf
-  write-short e h = rw (e, lt-leb (length (captureOf c)) (length o) h)
+  write-short e h = let l = length-capture c in rw (e, lt-leb (length (captureOf c)) (length o) (omega arith))
 
   pub write-so : (n : ℕ) (x : List ℕ) → fits c ≡ true → n ≡ length (captureOf c) → n ≤ length o → x ≡ placed o 0 (captureOf c) → wrote (Wrote n) x ≡ writeOf c o
   unfolding writeOf

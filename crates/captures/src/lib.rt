@@ -4,8 +4,8 @@
 // of code, registers, device memory, local memory and state, and 0. The words of each follow in that order, to the end of the
 // file. A launch has no state; a state's words are place, active, halted, p1, p2, p3, depth, and six for each open block.
 pub mod answer;
-mod testing;
 mod reading;
+mod testing;
 mod writing;
 
 pub use reading::read;

@@ -29,7 +29,14 @@ fn take_words(file: &[u8], at: usize, n: usize, out: &mut [u32])
 }
 
 // The words of a capture file, each part's at the start of its buffer.
-fn take_parts(file: &[u8], code: &mut [u32], registers: &mut [u32], device: &mut [u32], local: &mut [u32], state: &mut [u32])
+fn take_parts(
+    file: &[u8],
+    code: &mut [u32],
+    registers: &mut [u32],
+    device: &mut [u32],
+    local: &mut [u32],
+    state: &mut [u32],
+)
     requires { ⌜ verdictOf (now file) (roomsOf (lent (now code) (now registers) (now device) (now local) (now state))) ≡ Verdict.Fine ⌝ }
     ensures { λ _. ⌜ lent (now (code .exit)) (now (registers .exit)) (now (device .exit)) (now (local .exit)) (now (state .exit)) ≡ filled (captureIn (now (file .entry))) (lent (now (code .entry)) (now (registers .entry)) (now (device .entry)) (now (local .entry)) (now (state .entry))) ⌝ }
 {
@@ -45,7 +52,14 @@ fn take_parts(file: &[u8], code: &mut [u32], registers: &mut [u32], device: &mut
 // Reads a capture file: its kernel number and settings, and how many words it has of each part; these stand at the start of each
 // buffer, whose rest stays as lent. A file that is no capture, or has more words than there is room for, is answered by the first
 // broken rule and its place, and changes nothing.
-pub fn read(file: &[u8], code: &mut [u32], registers: &mut [u32], device: &mut [u32], local: &mut [u32], state: &mut [u32]) -> ReadAnswer
+pub fn read(
+    file: &[u8],
+    code: &mut [u32],
+    registers: &mut [u32],
+    device: &mut [u32],
+    local: &mut [u32],
+    state: &mut [u32],
+) -> ReadAnswer
     ensures { λ r. ⌜ reading r (lent (now (code .exit)) (now (registers .exit)) (now (device .exit)) (now (local .exit)) (now (state .exit))) ≡ readOf (now (file .entry)) (lent (now (code .entry)) (now (registers .entry)) (now (device .entry)) (now (local .entry)) (now (state .entry))) ⌝ }
 {
     let rooms = Counts {

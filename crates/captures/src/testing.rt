@@ -77,8 +77,18 @@ fn next(first: Verdict, holds: bool, rule: Rule, place: usize) -> Verdict
     ensures { λ r. ⌜ r ≡ nextVerdict first holds rule place ⌝ }
 {
     match first {
-        Verdict::Broken { rule: broken, place: at } => Verdict::Broken { rule: broken, place: at },
-        Verdict::Fine => if holds { Verdict::Fine } else { Verdict::Broken { rule, place } },
+        Verdict::Broken {
+            rule: broken,
+            place: at,
+        } => Verdict::Broken {
+            rule: broken,
+            place: at,
+        },
+        Verdict::Fine => if holds {
+            Verdict::Fine
+        } else {
+            Verdict::Broken { rule, place }
+        },
     }
 }
 
@@ -92,7 +102,11 @@ fn smaller(a: usize, b: usize) -> usize
 fn depth_of(count: usize) -> usize
     ensures { λ r. ⌜ r ≡ depthOf count ⌝ }
 {
-    if count < STATE_WORDS { 0 } else { (count - STATE_WORDS) / BLOCK_WORDS }
+    if count < STATE_WORDS {
+        0
+    } else {
+        (count - STATE_WORDS) / BLOCK_WORDS
+    }
 }
 
 // Mark and edition, as soon as they are there, then the header's thirteen numbers.
@@ -100,7 +114,12 @@ fn test_head(file: &[u8]) -> Verdict
     ensures { λ r. ⌜ r ≡ testHead (now (file .entry)) ⌝ }
 {
     let n = file.len();
-    let mark = next(Verdict::Fine, (n < 4) | (get(file, 0) == MARK), Rule::Mark, 0);
+    let mark = next(
+        Verdict::Fine,
+        (n < 4) | (get(file, 0) == MARK),
+        Rule::Mark,
+        0,
+    );
     let edition = next(mark, (n < 8) | (get(file, 4) == EDITION), Rule::Edition, 4);
     next(edition, HEADER_BYTES <= n, Rule::Header, 4 * (n / 4))
 }
@@ -130,7 +149,12 @@ fn test_state(first: Verdict, file: &[u8]) -> Verdict
         44,
     );
     let sixth = next(shape, get(file, 48) == 0, Rule::SixthCount, 48);
-    let end = next(sixth, file.len() == at.end, Rule::Length, smaller(file.len(), at.end));
+    let end = next(
+        sixth,
+        file.len() == at.end,
+        Rule::Length,
+        smaller(file.len(), at.end),
+    );
     next(
         end,
         (count == 0) | (get(file, at.depth) as usize == depth),

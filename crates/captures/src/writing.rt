@@ -49,7 +49,15 @@ fn state_fits(state: &[u32]) -> bool
 }
 
 // Puts the file of these parts at the front of `file`, as far as it fits.
-fn give_parts(head: Head, code: &[u32], registers: &[u32], device: &[u32], local: &[u32], state: &[u32], file: &mut [u8])
+fn give_parts(
+    head: Head,
+    code: &[u32],
+    registers: &[u32],
+    device: &[u32],
+    local: &[u32],
+    state: &[u32],
+    file: &mut [u8],
+)
     requires { ⌜ fits (captured head (now code) (now registers) (now device) (now local) (now state)) ≡ true ⌝ }
     ensures { λ _. ⌜ now (file .exit) ≡ placed (now (file .entry)) 0 (captureOf (captured head (now (code .entry)) (now (registers .entry)) (now (device .entry)) (now (local .entry)) (now (state .entry)))) ⌝ }
 {
@@ -82,7 +90,15 @@ fn give_parts(head: Head, code: &[u32], registers: &[u32], device: &[u32], local
 
 // Writes the capture file of these parts at the front of `file`, and answers its length; the rest of `file` stays as lent. Tests
 // 14, where a count is 2^32 or more or the state's words are no state's, then 13. A refusal changes nothing.
-pub fn write(head: Head, code: &[u32], registers: &[u32], device: &[u32], local: &[u32], state: &[u32], file: &mut [u8]) -> WriteAnswer
+pub fn write(
+    head: Head,
+    code: &[u32],
+    registers: &[u32],
+    device: &[u32],
+    local: &[u32],
+    state: &[u32],
+    file: &mut [u8],
+) -> WriteAnswer
     ensures { λ r. ⌜ wrote r (now (file .exit)) ≡ writeOf (captured head (now (code .entry)) (now (registers .entry)) (now (device .entry)) (now (local .entry)) (now (state .entry))) (now (file .entry)) ⌝ }
 {
     let fits = (code.len() < BOUND)

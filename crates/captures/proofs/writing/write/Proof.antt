@@ -1,58 +1,51 @@
+-- By whether a file has these parts, and whether it fits the buffer.
+use mathlib.Core.Path.{sym, _∙_}
+use native.Mathlib.Omega.{arith}
+use borrow.Author.Tests.{not-true, not-false}
+use Rattle.captures.specs.Capture.{captured}
+use Rattle.captures.proofs.Laid.{Fitting, fits-so, fits-known, length-capture, write-not, write-short, write-so}
 use borrow.Author.Needs.{needs}
 use Rattle.captures.proofs.writing.write.Statement.{statement}
 use Rattle.captures.proofs.writing.write.Tie as tie
-use Rattle.captures.proofs.writing.write.Reads as reads
-use Rattle.captures.proofs.writing.write.Lts as lts
-use Rattle.captures.proofs.writing.give_parts.Reads as give-parts-reads
-use Rattle.captures.proofs.writing.state_fits.Reads as state-fits-reads
 
--- src/writing.rt:93:11
 state-fits-requires : tie.Need-state-fits-requires
 state-fits-requires c κs = search needs
 
--- src/writing.rt:95:9
 returns : tie.Need-returns
-returns c = ?
+returns c = write-not _ _ (sym (fits-so _ _ (c .before .state-fits .ensures)) ∙ not-true _ (c .if1 .taken))
 
--- src/writing.rt:97:17
 add-words : tie.Need-add-words
 add-words c = search needs
 
--- src/writing.rt:97:17
 add-words-2 : tie.Need-add-words-2
 add-words-2 c = search needs
 
--- src/writing.rt:97:17
 add-words-3 : tie.Need-add-words-3
 add-words-3 c = search needs
 
--- src/writing.rt:97:17
 add-words-4 : tie.Need-add-words-4
 add-words-4 c = search needs
 
--- src/writing.rt:98:32
+fitting : (c : tie.Else1) → Fitting (captured (c .before .before .before .before .before .before .before .before .args .head) (c .before .before .before .before .before .before .before .before .args .code .now) (c .before .before .before .before .before .before .before .before .args .registers .now) (c .before .before .before .before .before .before .before .before .args .device .now) (c .before .before .before .before .before .before .before .before .args .local .now) (c .before .before .before .before .before .before .before .before .args .state .now))
+fitting c = fits-known _ (sym (fits-so _ _ (c .before .state-fits .ensures)) ∙ not-false _ (c .if1 .left))
+
 mul-total : tie.Need-mul-total
-mul-total c = ?
+mul-total c = let k = fitting c in omega (arith, k .code, k .registers, k .device, k .local, k .state)
 
--- src/writing.rt:98:17
 add-total : tie.Need-add-total
-add-total c = ?
+add-total c = let k = fitting c in omega (arith, k .code, k .registers, k .device, k .local, k .state)
 
--- src/writing.rt:100:9
 returns-2 : tie.Need-returns-2
-returns-2 c = ?
+returns-2 c = write-short _ _ (sym (fits-so _ _ (c .before .before .state-fits .ensures)) ∙ not-false _ (c .before .if1 .left)) (c .if2 .taken)
 
--- src/writing.rt:102:5
 give-parts-requires : tie.Need-give-parts-requires
-give-parts-requires c κs = ?
+give-parts-requires c κs = (sym (fits-so _ _ (c .before .before .before .state-fits .ensures)) ∙ not-false _ (c .before .before .if1 .left))
 
--- src/writing.rt:85:1
 same-length : tie.Need-same-length
 same-length c = search needs
 
--- src/writing.rt:85:1
 returns-3 : tie.Need-returns-3
-returns-3 c = ?
+returns-3 c = write-so _ _ _ _ (sym (fits-so _ _ (c .before .before .before .before .before .before .state-fits .ensures)) ∙ not-false _ (c .before .before .before .before .before .if1 .left)) (sym (length-capture _)) (c .before .before .before .before .if2 .left) (c .before .before .give-parts .ensures)
 
 pub write-spec : {M : Type 1} → statement M
 write-spec =
