@@ -1,3 +1,4 @@
 pub mod Words
 pub mod Tested
 pub mod Laid
+pub mod Accepted
