@@ -17,7 +17,7 @@ use Rattle.captures.specs.declared.testing.Verdict.{Verdict}
 use Rattle.captures.specs.declared.testing.Verdict.the-variants.{Fine, Broken}
 use Rattle.captures.specs.declared.testing.Places.{Places}
 use Rattle.captures.specs.Capture.{mark, edition, headerBytes, stateWords}
-use Rattle.captures.specs.Read.{headAt, countsAt, placesOf, numbersAt, captureIn, next, depthOf, testHead, testRooms, testState, verdictOf, Lent, lent, roomsOf, filled, reading, judged, readOf}
+use Rattle.captures.specs.Read.{headAt, countsAt, placesOf, numbersAt, captureIn, next, depthOf, testHead, testRooms, testState, verdictOf, Lent, lent, roomsOf, Within, filled, reading, judged, readOf}
 
 -- ---- what the tests say
 
@@ -37,11 +37,7 @@ pub record Accepted (f : List ℕ) (rooms : Counts) : Type 0 where
   pub long : headerBytes ≤ length f
   pub marked : numberAt f 0 ≡ mark
   pub edited : numberAt f 4 ≡ edition
-  pub code : countsAt f .code ≤ rooms .code
-  pub registers : countsAt f .registers ≤ rooms .registers
-  pub device : countsAt f .device ≤ rooms .device
-  pub local : countsAt f .local ≤ rooms .local
-  pub state : countsAt f .state ≤ rooms .state
+  pub within : Within (countsAt f) rooms
   pub shape : (eqb (countsAt f .state) 0 || eqb (countsAt f .state) (stateWords (depthOf (countsAt f .state)))) ≡ true
   pub sixth : numberAt f 48 ≡ 0
   pub whole : length f ≡ placesOf (countsAt f) .end
@@ -68,11 +64,7 @@ module _ (f : List ℕ) (rooms : Counts) where
         long = long;
         marked = eqb-true _ _ (rw (le-ltb (length f) 4 (omega arith)) at (a .1));
         edited = eqb-true _ _ (rw (le-ltb (length f) 8 (omega arith)) at (b .1));
-        code = leb-true _ _ (r1 .1);
-        registers = leb-true _ _ (r2 .1);
-        device = leb-true _ _ (r3 .1);
-        local = leb-true _ _ (r4 .1);
-        state = leb-true _ _ (r5 .1);
+        within = record { code = leb-true _ _ (r1 .1); registers = leb-true _ _ (r2 .1); device = leb-true _ _ (r3 .1); local = leb-true _ _ (r4 .1); state = leb-true _ _ (r5 .1) };
         shape = s .1;
         sixth = eqb-true _ _ (x .1);
         whole = eqb-true _ _ (w .1);
@@ -95,11 +87,11 @@ module _ (f : List ℕ) (rooms : Counts) where
       (next-so _ _ _ _
       (next-so _ _ _ _
       (next-so _ _ _ _ (next-so _ _ _ _ (next-so _ _ _ _ refl m) d) (le-leb _ _ (a .long)))
-      (le-leb _ _ (a .code)))
-      (le-leb _ _ (a .registers)))
-      (le-leb _ _ (a .device)))
-      (le-leb _ _ (a .local)))
-      (le-leb _ _ (a .state)))
+      (le-leb _ _ (a .within .code)))
+      (le-leb _ _ (a .within .registers)))
+      (le-leb _ _ (a .within .device)))
+      (le-leb _ _ (a .within .local)))
+      (le-leb _ _ (a .within .state)))
       (a .shape))
       (eq-eqb _ _ (a .sixth)))
       (eq-eqb _ _ (a .whole)))
@@ -110,24 +102,24 @@ module _ (f : List ℕ) (rooms : Counts) where
 module _ (f : List ℕ) (l : Lent) (v : verdictOf f (roomsOf l) ≡ Fine) (n : Counts) (en : n ≡ countsAt f) where
   pub room-code : (headerBytes + 4 * n .code ≤ length f) × (n .code ≤ length (l .code))
   unfolding placesOf roomsOf
-  room-code = let a = accepted f (roomsOf l) v in let w = a .whole in rw en (omega arith, a .code)
+  room-code = let a = accepted f (roomsOf l) v in let w = a .whole in rw en (omega arith, a .within .code)
 
   module _ (at : Places) (et : at ≡ placesOf (countsAt f)) where
     pub room-registers : (at .registers + 4 * n .registers ≤ length f) × (n .registers ≤ length (l .registers))
     unfolding placesOf roomsOf
-    room-registers = let a = accepted f (roomsOf l) v in let w = a .whole in rw (en, et) (omega arith, a .registers)
+    room-registers = let a = accepted f (roomsOf l) v in let w = a .whole in rw (en, et) (omega arith, a .within .registers)
 
     pub room-device : (at .device + 4 * n .device ≤ length f) × (n .device ≤ length (l .device))
     unfolding placesOf roomsOf
-    room-device = let a = accepted f (roomsOf l) v in let w = a .whole in rw (en, et) (omega arith, a .device)
+    room-device = let a = accepted f (roomsOf l) v in let w = a .whole in rw (en, et) (omega arith, a .within .device)
 
     pub room-local : (at .local + 4 * n .local ≤ length f) × (n .local ≤ length (l .local))
     unfolding placesOf roomsOf
-    room-local = let a = accepted f (roomsOf l) v in let w = a .whole in rw (en, et) (omega arith, a .local)
+    room-local = let a = accepted f (roomsOf l) v in let w = a .whole in rw (en, et) (omega arith, a .within .local)
 
     pub room-state : (at .state + 4 * n .state ≤ length f) × (n .state ≤ length (l .state))
     unfolding placesOf roomsOf
-    room-state = let a = accepted f (roomsOf l) v in let w = a .whole in rw (en, et) (omega arith, a .state)
+    room-state = let a = accepted f (roomsOf l) v in let w = a .whole in rw (en, et) (omega arith, a .within .state)
 
 -- ---- the words taken
 

@@ -1,10 +1,11 @@
 -- The capture file: everything that a run takes, packed as numbers of four bytes, low byte first (house).
-use Prim.Native.Nat.{ℕ, _+_, _*_, _-_, _/_}
-use mathlib.Core.Bool.{Bool, _&&_, _||_}
+use Prim.Native.Nat.{ℕ, _+_, _*_}
+use mathlib.Core.Path.{_≡_}
+use mathlib.Core.Bool.{Bool, true, _&&_, _||_}
 use mathlib.Core.List.{List, [], _∷_, _++_}
 use lib.Dec.{ltb, eqb}
 use lib.ListN.{length, getD}
-use Rattle.numbers.specs.Numbers.{bound, bytesOfAll}
+use Rattle.numbers.specs.Numbers.{bound, bytesOfAll, Small}
 use Rattle.captures.specs.declared.answer.Head.{Head}
 
 -- ---- what is fixed
@@ -68,3 +69,8 @@ fits c =
     && (ltb (length (c .local)) bound
     && (ltb (length (c .state)) bound
     && stateFits (c .state)))))
+
+-- a capture that a file is of: all its numbers have four bytes, and its state's words are a state's
+pub record Filed (c : Capture) : Type 0 where
+  pub small : Small (headerOf c ++ wordsOf c)
+  pub shape : stateFits (c .state) ≡ true

@@ -1,5 +1,5 @@
 -- Reading a capture file into lent buffers: the tests in their order, and what the file holds.
-use Prim.Native.Nat.{ℕ, zero, suc, _+_, _*_, _-_, _/_, min}
+use Prim.Native.Nat.{ℕ, zero, suc, _+_, _*_, _-_, _/_, _≤_, min}
 use mathlib.Core.Bool.{Bool, cond, _||_}
 use mathlib.Core.List.{List, [], _∷_}
 use lib.Dec.{ltb, leb, eqb}
@@ -116,6 +116,25 @@ roomsOf l =
       local = length (l .local);
       state = length (l .state);
     }
+
+-- how many words a capture has of each part
+unfoldable pub countsOf : Capture → Counts
+countsOf c =
+    record {
+      code = length (c .code);
+      registers = length (c .registers);
+      device = length (c .device);
+      local = length (c .local);
+      state = length (c .state);
+    }
+
+-- there is room for each count
+pub record Within (n rooms : Counts) : Type 0 where
+  pub code : n .code ≤ rooms .code
+  pub registers : n .registers ≤ rooms .registers
+  pub device : n .device ≤ rooms .device
+  pub local : n .local ≤ rooms .local
+  pub state : n .state ≤ rooms .state
 
 -- the words of a capture at the start of each buffer, the rest of each as it was
 unfoldable pub filled : Capture → Lent → Lent
