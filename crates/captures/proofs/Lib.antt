@@ -2,3 +2,4 @@ pub mod Words
 pub mod Tested
 pub mod Laid
 pub mod Accepted
+pub mod Files
