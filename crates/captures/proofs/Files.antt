@@ -19,7 +19,7 @@ use Rattle.captures.specs.declared.testing.Verdict.the-variants.{Fine}
 use Rattle.captures.specs.Capture.{mark, edition, headerBytes, Capture, headerOf, wordsOf, captureOf, stateWords, stateFits, fits, Filed}
 use Rattle.captures.specs.Read.{headAt, countsAt, placesOf, numbersAt, captureIn, depthOf, verdictOf, countsOf, Within}
 use Rattle.captures.proofs.Words.{length-numbers, getD-numbers, numbers-back, drop-behind, numbers-hold, numbers-small}
-use Rattle.captures.proofs.Laid.{Fitting, length-capture}
+use Rattle.captures.proofs.Laid.{fits-known, length-capture}
 use Rattle.captures.proofs.Accepted.{Accepted, is-accepted}
 
 -- the first of small numbers are small
@@ -162,4 +162,68 @@ module _ (c : Capture) (g : Filed c) where
         sixth = header-at 12 (omega arith);
         whole = rw e (omega arith);
         deep = rw e (deep-so (length (c .state)) (getD (c .state) 6 0) _ depth-back (g .shape));
+      }
+
+-- ---- from a file to its capture and back
+
+module _ (f : List ℕ) (by : Bytes f) (rooms : Counts) (a : Accepted f rooms) where
+  header-numbers : headerOf (captureIn f) ≡ numbersAt f 0 13
+  unfolding headerOf captureIn headAt countsAt numbersAt
+  header-numbers = simp (length-numbers, a .marked, a .edited, a .sixth)
+
+  -- the bytes of a file that breaks no rule are those of its numbers
+  pub file-back : captureOf (captureIn f) ≡ f
+  unfolding captureOf wordsOf captureIn placesOf
+  file-back =
+      let n = countsAt f in
+      let at = placesOf n in
+      let w = a .whole in
+      let H : Holds f 0 (headerOf (captureIn f)) headerBytes = rw header-numbers (numbers-hold f 0 13 by (a .long)) in
+      let C = numbers-hold f headerBytes (n .code) by (omega arith) in
+      let R = numbers-hold f (at .registers) (n .registers) by (omega arith) in
+      let D = numbers-hold f (at .device) (n .device) by (omega arith) in
+      let L = numbers-hold f (at .local) (n .local) by (omega arith) in
+      let S = numbers-hold f (at .state) (n .state) by (omega arith) in
+      let from-local = holds-join f (at .local) (at .state) (at .end) _ _ L S in
+      let from-device = holds-join f (at .device) (at .local) (at .end) _ _ D from-local in
+      let from-registers = holds-join f (at .registers) (at .device) (at .end) _ _ R from-device in
+      let from-code = holds-join f headerBytes (at .registers) (at .end) _ _ C from-registers in
+      let all = holds-join f 0 headerBytes (at .end) _ _ H from-code in
+      let none : drop (at .end) f ≡ [] = ap (λ (k : ℕ). drop k f) (sym w) ∙ drop-length f in
+      sym (all ∙ ap (λ (l : List ℕ). captureOf (captureIn f) ++ l) none ∙ append-nil (captureOf (captureIn f)))
+
+  -- and its capture is one that a file is of
+  pub file-filed : Filed (captureIn f)
+  unfolding wordsOf captureIn stateFits placesOf
+  file-filed =
+      let n = countsAt f in
+      let at = placesOf n in
+      let small = numbers-small f in
+      record {
+        small = small-append (headerOf (captureIn f)) _ (rw header-numbers (small 0 13 by)) (small-append _ _ (small headerBytes (n .code) by) (small-append _ _ (small (at .registers) (n .registers) by) (small-append _ _ (small (at .device) (n .device) by) (small-append _ _ (small (at .local) (n .local) by) (small (at .state) (n .state) by)))));
+        shape = rw (length-numbers f (at .state) (n .state)) (state-so (n .state) (getD (numbersAt f (at .state) (n .state)) 6 0) (numberAt f (at .depth)) (λ h. sym (getD-numbers f (at .state) (n .state) 6 h)) (a .shape) (a .deep));
+      }
+
+  pub counts-in : countsOf (captureIn f) ≡ countsAt f
+  unfolding countsOf captureIn
+  counts-in = simp length-numbers
+
+-- ---- which captures are written
+
+module _ (c : Capture) where
+  pub filed-fits : Filed c → fits c ≡ true
+  unfolding fits headerOf
+  filed-fits g =
+      let h = g .small in
+      and-both _ _ (lt-ltb _ _ (h .below 7)) (and-both _ _ (lt-ltb _ _ (h .below 8)) (and-both _ _ (lt-ltb _ _ (h .below 9)) (and-both _ _ (lt-ltb _ _ (h .below 10)) (and-both _ _ (lt-ltb _ _ (h .below 11)) (g .shape)))))
+
+  -- a capture of words that has a file
+  pub fits-filed : fits c ≡ true → Small (c .head .kernel ∷ c .head .width ∷ c .head .registers ∷ c .head .lanes ∷ c .head .budget ∷ []) → Small (wordsOf c) → Filed c
+  unfolding headerOf
+  fits-filed e h w =
+      let k = fits-known c e in
+      let rest = small-append (0 ∷ []) (wordsOf c) (small-cons 0 [] (omega arith) small-nil) w in
+      record {
+        small = small-cons mark _ (omega arith) (small-cons edition _ (omega arith) (small-append (c .head .kernel ∷ c .head .width ∷ c .head .registers ∷ c .head .lanes ∷ c .head .budget ∷ []) _ h (small-cons _ _ (k .code) (small-cons _ _ (k .registers) (small-cons _ _ (k .device) (small-cons _ _ (k .local) (small-cons _ _ (k .state) rest)))))));
+        shape = k .shape;
       }
