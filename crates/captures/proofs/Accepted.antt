@@ -1,10 +1,10 @@
 -- A file that breaks no rule: what the tests say of it, and what reading it leaves in the buffers.
-use mathlib.Core.Path.{_≡_, refl, sym, ap, _∙_}
-use Prim.Native.Nat.{ℕ, _+_, _*_, _/_, _≤_, _<_, min}
-use mathlib.Core.Bool.{Bool, true, false, cond, _||_}
+use mathlib.Core.Path.{_≡_, refl}
+use Prim.Native.Nat.{ℕ, _+_, _*_, _≤_}
+use mathlib.Core.Bool.{Bool, true, false, _||_}
 use mathlib.Core.List.{List}
 use native.Mathlib.Omega.{arith}
-use lib.Dec.{ltb, leb, eqb}
+use lib.Dec.{ltb, eqb}
 use lib.ListN.{length}
 use borrow.Author.Tests.{leb-true, le-leb, le-ltb, eqb-true, eq-eqb}
 use Rattle.numbers.specs.Numbers.{numberAt}
@@ -16,7 +16,7 @@ use Rattle.captures.specs.declared.answer.ReadAnswer.the-variants.{Read,
 use Rattle.captures.specs.declared.testing.Verdict.{Verdict}
 use Rattle.captures.specs.declared.testing.Verdict.the-variants.{Fine, Broken}
 use Rattle.captures.specs.declared.testing.Places.{Places}
-use Rattle.captures.specs.Capture.{mark, edition, headerBytes, stateWords}
+use Rattle.captures.specs.Capture.{mark, edition, headerBytes, stateWords, sixthCount}
 use Rattle.captures.specs.Read.{headAt, countsAt, placesOf, numbersAt, captureIn, next, depthOf, testHead, testRooms, testState, verdictOf, Lent, lent, roomsOf, Within, filled, reading, judged, readOf}
 
 -- ---- what the tests say
@@ -39,7 +39,7 @@ pub record Accepted (f : List ℕ) (rooms : Counts) : Type 0 where
   pub edited : numberAt f 4 ≡ edition
   pub within : Within (countsAt f) rooms
   pub shape : (eqb (countsAt f .state) 0 || eqb (countsAt f .state) (stateWords (depthOf (countsAt f .state)))) ≡ true
-  pub sixth : numberAt f 48 ≡ 0
+  pub sixth : numberAt f sixthCount ≡ 0
   pub whole : length f ≡ placesOf (countsAt f) .end
   pub deep : (eqb (countsAt f .state) 0 || eqb (numberAt f (placesOf (countsAt f) .depth)) (depthOf (countsAt f .state))) ≡ true
 

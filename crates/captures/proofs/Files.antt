@@ -1,7 +1,7 @@
 -- Captures and their files give each other back: what is read where the parts stand is the parts, and the bytes of what is read
 -- are the file's.
-use mathlib.Core.Path.{_≡_, refl, sym, ap, _∙_}
-use Prim.Native.Nat.{ℕ, _+_, _*_, _≤_, _<_}
+use mathlib.Core.Path.{_≡_, sym, ap, _∙_}
+use Prim.Native.Nat.{ℕ, _+_, _*_, _<_}
 use mathlib.Core.Bool.{true, _||_, or-true}
 use mathlib.Core.Logic.{⊎-elim}
 use mathlib.Core.List.{List, [], _∷_, _++_, append-nil}
@@ -12,15 +12,14 @@ use lib.Seq.{drop-at, drop-length}
 use borrow.Author.Tests.{eqb-true, eq-eqb, lt-ltb}
 use Rattle.ground.proofs.Bools.{and-both}
 use Rattle.ground.proofs.Tests.{or-cases}
-use Rattle.numbers.specs.Numbers.{bound, bytesOfAll, numberAt, Bytes, Small}
-use Rattle.numbers.proofs.Numerals.{length-bytesOfAll, bytes-append, number-nth, number-drop, number-small, small-nil, small-cons, small-tail, small-append, small-drop, Holds, holds-join}
+use Rattle.numbers.specs.Numbers.{bytesOfAll, numberAt, Bytes, Small}
+use Rattle.numbers.proofs.Numerals.{length-bytesOfAll, bytes-append, number-nth, number-drop, small-nil, small-cons, small-tail, small-append, small-drop, Holds, holds-join}
 use Rattle.captures.specs.declared.answer.Counts.{Counts}
-use Rattle.captures.specs.declared.testing.Verdict.the-variants.{Fine}
-use Rattle.captures.specs.Capture.{mark, edition, headerBytes, Capture, headerOf, wordsOf, captureOf, stateWords, stateFits, fits, Filed}
-use Rattle.captures.specs.Read.{headAt, countsAt, placesOf, numbersAt, captureIn, depthOf, verdictOf, countsOf, Within}
+use Rattle.captures.specs.Capture.{mark, edition, headerBytes, Capture, headerOf, wordsOf, captureOf, stateWords, stateFits, fits, Filed, depthWord}
+use Rattle.captures.specs.Read.{headAt, countsAt, placesOf, numbersAt, captureIn, depthOf, countsOf, Within}
 use Rattle.captures.proofs.Words.{length-numbers, getD-numbers, numbers-back, drop-behind, numbers-hold, numbers-small}
 use Rattle.captures.proofs.Laid.{fits-known, length-capture}
-use Rattle.captures.proofs.Accepted.{Accepted, is-accepted}
+use Rattle.captures.proofs.Accepted.{Accepted}
 
 -- the first of small numbers are small
 small-front : (ms ns : List ℕ) → Small (ms ++ ns) → Small ms
@@ -141,7 +140,7 @@ module _ (c : Capture) (g : Filed c) where
       )
 
   -- the depth is read off the state's seventh word
-  depth-back : 6 < length (c .state) → numberAt (captureOf c) (placesOf (countsOf c) .depth) ≡ getD (c .state) 6 0
+  depth-back : 6 < length (c .state) → numberAt (captureOf c) (placesOf (countsOf c) .depth) ≡ getD (c .state) depthWord 0
   unfolding placesOf countsOf
   depth-back h =
       let p = headerBytes + 4 * length (c .code) + 4 * length (c .registers) + 4 * length (c .device) + 4 * length (c .local) in
@@ -158,10 +157,10 @@ module _ (c : Capture) (g : Filed c) where
         marked = header-at 0 (omega arith);
         edited = header-at 1 (omega arith);
         within = rw e w;
-        shape = rw e (shape-so (length (c .state)) (getD (c .state) 6 0) _ depth-back (g .shape));
+        shape = rw e (shape-so (length (c .state)) (getD (c .state) depthWord 0) _ depth-back (g .shape));
         sixth = header-at 12 (omega arith);
         whole = rw e (omega arith);
-        deep = rw e (deep-so (length (c .state)) (getD (c .state) 6 0) _ depth-back (g .shape));
+        deep = rw e (deep-so (length (c .state)) (getD (c .state) depthWord 0) _ depth-back (g .shape));
       }
 
 -- ---- from a file to its capture and back
@@ -201,7 +200,7 @@ module _ (f : List ℕ) (by : Bytes f) (rooms : Counts) (a : Accepted f rooms) w
       let small = numbers-small f in
       record {
         small = small-append (headerOf (captureIn f)) _ (rw header-numbers (small 0 13 by)) (small-append _ _ (small headerBytes (n .code) by) (small-append _ _ (small (at .registers) (n .registers) by) (small-append _ _ (small (at .device) (n .device) by) (small-append _ _ (small (at .local) (n .local) by) (small (at .state) (n .state) by)))));
-        shape = rw (length-numbers f (at .state) (n .state)) (state-so (n .state) (getD (numbersAt f (at .state) (n .state)) 6 0) (numberAt f (at .depth)) (λ h. sym (getD-numbers f (at .state) (n .state) 6 h)) (a .shape) (a .deep));
+        shape = rw (length-numbers f (at .state) (n .state)) (state-so (n .state) (getD (numbersAt f (at .state) (n .state)) depthWord 0) (numberAt f (at .depth)) (λ h. sym (getD-numbers f (at .state) (n .state) 6 h)) (a .shape) (a .deep));
       }
 
   pub counts-in : countsOf (captureIn f) ≡ countsAt f

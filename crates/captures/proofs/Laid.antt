@@ -27,9 +27,6 @@ pub record Fitting (c : Capture) : Type 0 where
   pub shape : stateFits (c .state) ≡ true
 
 module _ (c : Capture) where
-  few : List ℕ → Bool
-  few l = ltb (length l) bound
-
   -- the tests as the code makes them
   pub fits-so : (s : Bool) → s ≡ stateFits (c .state)
       → (((((ltb (length (c .code)) bound && ltb (length (c .registers)) bound) && ltb (length (c .device)) bound) && ltb (length (c .local)) bound) && ltb (length (c .state)) bound) && s) ≡ fits c

@@ -1,5 +1,5 @@
 -- The tests, as the code makes them.
-use mathlib.Core.Path.{_≡_, refl, sym, ap, _∙_}
+use mathlib.Core.Path.{_≡_, sym, ap}
 use Prim.Native.Nat.{ℕ, _+_, _*_, _-_, _/_, _≤_, _<_, min}
 use mathlib.Core.Bool.{Bool, true, false, _||_, or-false}
 use mathlib.Core.List.{List}
@@ -11,19 +11,18 @@ use Rattle.numbers.specs.Numbers.{bound, numberAt}
 use Rattle.captures.specs.declared.answer.Rule.{Rule}
 use Rattle.captures.specs.declared.testing.Verdict.{Verdict}
 use Rattle.captures.specs.declared.testing.Verdict.the-variants.{Fine, Broken}
-use Rattle.captures.specs.declared.answer.Head.{Head}
 use Rattle.captures.specs.declared.answer.Counts.{Counts}
 use Rattle.captures.specs.declared.testing.Places.{Places}
-use Rattle.captures.specs.Capture.{mark, edition, headerBytes, stateWords, stateFits}
+use Rattle.captures.specs.Capture.{mark, edition, headerBytes, stateWords, stateFits, codeCount, registersCount, deviceCount, localCount, stateCount, sixthCount, depthWord}
 use Rattle.captures.specs.Read.{headAt, countsAt, placesOf, next, depthOf, testHead, testRooms, testState, verdictOf}
 
 -- ---- a state's words
 
 pub state-short : (s : List ℕ) → length s < 7 → eqb (length s) 0 ≡ stateFits s
 unfolding stateFits
-state-short s h = rw (ne-eqb (length s) (stateWords (getD s 6 0)) (λ e. omega arith)) (sym (or-false (eqb (length s) 0)))
+state-short s h = rw (ne-eqb (length s) (stateWords (getD s depthWord 0)) (λ e. omega arith)) (sym (or-false (eqb (length s) 0)))
 
-pub state-long : (s : List ℕ) → 7 ≤ length s → eqb (length s) (stateWords (getD s 6 0)) ≡ stateFits s
+pub state-long : (s : List ℕ) → 7 ≤ length s → eqb (length s) (stateWords (getD s depthWord 0)) ≡ stateFits s
 unfolding stateFits
 state-long s h = rw (ne-eqb (length s) 0 (λ e. omega arith))
 
@@ -39,12 +38,12 @@ module _ (f : List ℕ) (a b c d e : ℕ) where
   unfolding headAt
   head-so ea eb ec ed ee = rw (ea, eb, ec, ed, ee)
 
-  pub counts-so : a ≡ numberAt f 28 → b ≡ numberAt f 32 → c ≡ numberAt f 36 → d ≡ numberAt f 40 → e ≡ numberAt f 44
+  pub counts-so : a ≡ numberAt f codeCount → b ≡ numberAt f registersCount → c ≡ numberAt f deviceCount → d ≡ numberAt f localCount → e ≡ numberAt f stateCount
       → record { code = a; registers = b; device = c; local = d; state = e } ≡ countsAt f
   unfolding countsAt
   counts-so ea eb ec ed ee = rw (ea, eb, ec, ed, ee)
 
-  pub places-so : a ≡ numberAt f 28 → b ≡ numberAt f 32 → c ≡ numberAt f 36 → d ≡ numberAt f 40 → e ≡ numberAt f 44
+  pub places-so : a ≡ numberAt f codeCount → b ≡ numberAt f registersCount → c ≡ numberAt f deviceCount → d ≡ numberAt f localCount → e ≡ numberAt f stateCount
       → placesOf (record { code = a; registers = b; device = c; local = d; state = e }) ≡ placesOf (countsAt f)
   places-so ea eb ec ed ee = ap placesOf (counts-so ea eb ec ed ee)
 
@@ -73,15 +72,15 @@ module _ (f : List ℕ) (m n : ℕ) (a b c : Verdict) where
   head-tested em ea en eb ec = rw (ec, eb, ea, em, en)
 
 module _ (v : Verdict) (n rooms : Counts) (a b c d e : Verdict) where
-  pub rooms-tested : a ≡ next v (leb (n .code) (rooms .code)) Rule.Room 28 → b ≡ next a (leb (n .registers) (rooms .registers)) Rule.Room 32
-      → c ≡ next b (leb (n .device) (rooms .device)) Rule.Room 36 → d ≡ next c (leb (n .local) (rooms .local)) Rule.Room 40
-      → e ≡ next d (leb (n .state) (rooms .state)) Rule.Room 44 → e ≡ testRooms v n rooms
+  pub rooms-tested : a ≡ next v (leb (n .code) (rooms .code)) Rule.Room codeCount → b ≡ next a (leb (n .registers) (rooms .registers)) Rule.Room registersCount
+      → c ≡ next b (leb (n .device) (rooms .device)) Rule.Room deviceCount → d ≡ next c (leb (n .local) (rooms .local)) Rule.Room localCount
+      → e ≡ next d (leb (n .state) (rooms .state)) Rule.Room stateCount → e ≡ testRooms v n rooms
   unfolding testRooms
   rooms-tested ea eb ec ed ee = rw (ee, ed, ec, eb, ea)
 
-module _ (v : Verdict) (f : List ℕ) (n depth : ℕ) (at : Places) (en : n ≡ numberAt f 44) (ep : depth ≡ depthOf n) (et : at ≡ placesOf (countsAt f)) where
-  pub state-tested : (six least word : ℕ) (a b c d : Verdict) → a ≡ next v (eqb n 0 || eqb n (stateWords depth)) Rule.StateCount 44
-      → six ≡ numberAt f 48 → b ≡ next a (eqb six 0) Rule.SixthCount 48
+module _ (v : Verdict) (f : List ℕ) (n depth : ℕ) (at : Places) (en : n ≡ numberAt f stateCount) (ep : depth ≡ depthOf n) (et : at ≡ placesOf (countsAt f)) where
+  pub state-tested : (six least word : ℕ) (a b c d : Verdict) → a ≡ next v (eqb n 0 || eqb n (stateWords depth)) Rule.StateCount stateCount
+      → six ≡ numberAt f sixthCount → b ≡ next a (eqb six 0) Rule.SixthCount sixthCount
       → least ≡ min (length f) (at .end) → c ≡ next b (eqb (length f) (at .end)) Rule.Length least
       → word ≡ numberAt f (at .depth) → d ≡ next c (eqb n 0 || eqb word depth) Rule.Depth (at .depth) → d ≡ testState v f
   unfolding testState countsAt

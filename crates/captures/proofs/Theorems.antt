@@ -5,7 +5,6 @@ use mathlib.Core.List.{List}
 use native.Mathlib.Omega.{arith}
 use lib.ListN.{length, take, drop}
 use lib.Seq.{take-at}
-use borrow.Author.Tests.{le-leb}
 use Rattle.numbers.specs.Numbers.{Bytes}
 use Rattle.numbers.proofs.Placing.{placed-front}
 use Rattle.captures.specs.declared.answer.Head.{Head}
@@ -16,8 +15,8 @@ use Rattle.captures.specs.declared.answer.WriteAnswer.the-variants.{Wrot
 use Rattle.captures.specs.declared.testing.Verdict.{Verdict}
 use Rattle.captures.specs.declared.testing.Verdict.the-variants.{Fine, Broken}
 use Rattle.captures.specs.Capture.{Capture, captureOf, Filed}
-use Rattle.captures.specs.Write.{Writing, wrote, writeOf}
-use Rattle.captures.specs.Read.{captureIn, verdictOf, Lent, roomsOf, countsOf, Within, filled, Reading, reading, judged, readOf}
+use Rattle.captures.specs.Write.{Writing, writeOf}
+use Rattle.captures.specs.Read.{captureIn, verdictOf, Lent, roomsOf, countsOf, Within, filled, reading, judged, readOf}
 use Rattle.captures.proofs.Laid.{write-so}
 use Rattle.captures.proofs.Accepted.{accepted, is-accepted, read-fine}
 use Rattle.captures.proofs.Files.{head-back, counts-back, capture-back, file-accepted, file-back, file-filed, counts-in, filed-fits}

@@ -21,6 +21,33 @@ edition = 1
 abbrev pub headerBytes : ℕ
 headerBytes = 52
 
+-- where the header's counts stand: of code, registers, device memory, local memory and state, and the sixth
+abbrev pub codeCount : ℕ
+codeCount = 28
+
+abbrev pub registersCount : ℕ
+registersCount = 32
+
+abbrev pub deviceCount : ℕ
+deviceCount = 36
+
+abbrev pub localCount : ℕ
+localCount = 40
+
+abbrev pub stateCount : ℕ
+stateCount = 44
+
+abbrev pub sixthCount : ℕ
+sixthCount = 48
+
+-- which of a state's words is its depth, counted from 0
+abbrev pub depthWord : ℕ
+depthWord = 6
+
+-- the words of a state with this many open blocks
+abbrev pub stateWords : ℕ → ℕ
+stateWords depth = 7 + 6 * depth
+
 -- ---- a capture and its file
 
 -- kernel number and settings, and the words of code, registers, device memory, local memory and state
@@ -52,13 +79,9 @@ captureOf c = bytesOfAll (headerOf c ++ wordsOf c)
 
 -- ---- which captures have a file
 
--- the words of a state with this many open blocks
-abbrev pub stateWords : ℕ → ℕ
-stateWords depth = 7 + 6 * depth
-
--- no words for a launch, else the words of a state, the seventh being its depth
+-- no words for a launch, else as many as the depth among them says
 unfoldable pub stateFits : List ℕ → Bool
-stateFits s = eqb (length s) 0 || eqb (length s) (stateWords (getD s 6 0))
+stateFits s = eqb (length s) 0 || eqb (length s) (stateWords (getD s depthWord 0))
 
 -- each count is a number of four bytes, and the state's words are a state's
 unfoldable pub fits : Capture → Bool

@@ -14,7 +14,7 @@ use Rattle.captures.specs.declared.answer.ReadAnswer.the-variants.{Read,
 use Rattle.captures.specs.declared.testing.Verdict.{Verdict}
 use Rattle.captures.specs.declared.testing.Verdict.the-variants.{Fine, Broken}
 use Rattle.captures.specs.declared.testing.Places.{Places}
-use Rattle.captures.specs.Capture.{mark, edition, headerBytes, stateWords, Capture}
+use Rattle.captures.specs.Capture.{mark, edition, headerBytes, codeCount, registersCount, deviceCount, localCount, stateCount, sixthCount, depthWord, stateWords, Capture}
 
 -- ---- what a file holds
 
@@ -23,7 +23,7 @@ headAt f = record { kernel = numberAt f 8; width = numberAt f 12; registers = nu
 
 -- the counts of words
 unfoldable pub countsAt : List ℕ → Counts
-countsAt f = record { code = numberAt f 28; registers = numberAt f 32; device = numberAt f 36; local = numberAt f 40; state = numberAt f 44 }
+countsAt f = record { code = numberAt f codeCount; registers = numberAt f registersCount; device = numberAt f deviceCount; local = numberAt f localCount; state = numberAt f stateCount }
 
 -- where the words of the parts behind the code stand, where the state's depth does, and where the file ends
 unfoldable pub placesOf : Counts → Places
@@ -32,7 +32,7 @@ placesOf n =
     let device = registers + 4 * n .registers in
     let local = device + 4 * n .device in
     let state = local + 4 * n .local in
-    record { registers = registers; device = device; local = local; state = state; depth = state + 24; end = state + 4 * n .state }
+    record { registers = registers; device = device; local = local; state = state; depth = state + 4 * depthWord; end = state + 4 * n .state }
 
 -- n numbers, the first at p
 unfoldable pub numbersAt : List ℕ → ℕ → ℕ → List ℕ
@@ -70,11 +70,11 @@ testHead f =
 -- there is room for each count
 unfoldable pub testRooms : Verdict → Counts → Counts → Verdict
 testRooms v n rooms =
-    let a = next v (leb (n .code) (rooms .code)) Rule.Room 28 in
-    let b = next a (leb (n .registers) (rooms .registers)) Rule.Room 32 in
-    let c = next b (leb (n .device) (rooms .device)) Rule.Room 36 in
-    let d = next c (leb (n .local) (rooms .local)) Rule.Room 40 in
-    next d (leb (n .state) (rooms .state)) Rule.Room 44
+    let a = next v (leb (n .code) (rooms .code)) Rule.Room codeCount in
+    let b = next a (leb (n .registers) (rooms .registers)) Rule.Room registersCount in
+    let c = next b (leb (n .device) (rooms .device)) Rule.Room deviceCount in
+    let d = next c (leb (n .local) (rooms .local)) Rule.Room localCount in
+    next d (leb (n .state) (rooms .state)) Rule.Room stateCount
 
 -- the depth that a state's count gives
 unfoldable pub depthOf : ℕ → ℕ
@@ -85,8 +85,8 @@ unfoldable pub testState : Verdict → List ℕ → Verdict
 testState v f =
     let n = countsAt f .state in
     let at = placesOf (countsAt f) in
-    let a = next v (eqb n 0 || eqb n (stateWords (depthOf n))) Rule.StateCount 44 in
-    let b = next a (eqb (numberAt f 48) 0) Rule.SixthCount 48 in
+    let a = next v (eqb n 0 || eqb n (stateWords (depthOf n))) Rule.StateCount stateCount in
+    let b = next a (eqb (numberAt f sixthCount) 0) Rule.SixthCount sixthCount in
     let c = next b (eqb (length f) (at .end)) Rule.Length (min (length f) (at .end)) in
     next c (eqb n 0 || eqb (numberAt f (at .depth)) (depthOf n)) Rule.Depth (at .depth)
 

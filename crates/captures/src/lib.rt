@@ -23,3 +23,6 @@ const HEADER_BYTES: usize = 52;
 const STATE_WORDS: usize = 7;
 
 const BLOCK_WORDS: usize = 6;
+
+// Which of a state's words is its depth, counted from 0.
+const DEPTH_WORD: usize = 6;

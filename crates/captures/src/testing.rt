@@ -1,5 +1,6 @@
 // Whether bytes are a capture file: what their header says, and the first broken rule.
 use crate::BLOCK_WORDS;
+use crate::DEPTH_WORD;
 use crate::EDITION;
 use crate::HEADER_BYTES;
 use crate::MARK;
@@ -11,6 +12,19 @@ use numbers::get;
 ghost use mathlib.Core.Path.{_≡_};
 ghost use Prim.Native.Nat.{min};
 ghost use Rattle.captures.specs.Read.{headAt, countsAt, placesOf, next as nextVerdict, depthOf, testHead, testRooms, testState, verdictOf};
+
+// Where the header's counts stand: of code, registers, device memory, local memory and state, and the sixth.
+const CODE_COUNT: usize = 28;
+
+const REGISTERS_COUNT: usize = 32;
+
+const DEVICE_COUNT: usize = 36;
+
+const LOCAL_COUNT: usize = 40;
+
+const STATE_COUNT: usize = 44;
+
+const SIXTH_COUNT: usize = 48;
 
 // The first broken rule and its place, or none.
 pub(crate) enum Verdict {
@@ -46,11 +60,11 @@ pub(crate) fn counts_of(file: &[u8]) -> Counts
     ensures { λ r. ⌜ r ≡ countsAt (now (file .entry)) ⌝ }
 {
     Counts {
-        code: get(file, 28) as usize,
-        registers: get(file, 32) as usize,
-        device: get(file, 36) as usize,
-        local: get(file, 40) as usize,
-        state: get(file, 44) as usize,
+        code: get(file, CODE_COUNT) as usize,
+        registers: get(file, REGISTERS_COUNT) as usize,
+        device: get(file, DEVICE_COUNT) as usize,
+        local: get(file, LOCAL_COUNT) as usize,
+        state: get(file, STATE_COUNT) as usize,
     }
 }
 
@@ -58,17 +72,19 @@ pub(crate) fn counts_of(file: &[u8]) -> Counts
 pub(crate) fn places_of(file: &[u8]) -> Places
     ensures { λ r. ⌜ r ≡ placesOf (countsAt (now (file .entry))) ⌝ }
 {
-    let registers = HEADER_BYTES + 4 * (get(file, 28) as usize);
-    let device = registers + 4 * (get(file, 32) as usize);
-    let local = device + 4 * (get(file, 36) as usize);
-    let state = local + 4 * (get(file, 40) as usize);
+    let registers = HEADER_BYTES + 4 * (get(file, CODE_COUNT) as usize);
+    let device = registers + 4 * (get(file, REGISTERS_COUNT) as usize);
+    let local = device + 4 * (get(file, DEVICE_COUNT) as usize);
+    let state = local + 4 * (get(file, LOCAL_COUNT) as usize);
+    let depth = state + 4 * DEPTH_WORD;
+    let end = state + 4 * (get(file, STATE_COUNT) as usize);
     Places {
         registers,
         device,
         local,
         state,
-        depth: state + 24,
-        end: state + 4 * (get(file, 44) as usize),
+        depth,
+        end,
     }
 }
 
@@ -77,13 +93,7 @@ fn next(first: Verdict, holds: bool, rule: Rule, place: usize) -> Verdict
     ensures { λ r. ⌜ r ≡ nextVerdict first holds rule place ⌝ }
 {
     match first {
-        Verdict::Broken {
-            rule: broken,
-            place: at,
-        } => Verdict::Broken {
-            rule: broken,
-            place: at,
-        },
+        Verdict::Broken { rule: r, place: p } => Verdict::Broken { rule: r, place: p },
         Verdict::Fine => if holds {
             Verdict::Fine
         } else {
@@ -92,6 +102,7 @@ fn next(first: Verdict, holds: bool, rule: Rule, place: usize) -> Verdict
     }
 }
 
+// The smaller of two places.
 fn smaller(a: usize, b: usize) -> usize
     ensures { λ r. ⌜ r ≡ min a b ⌝ }
 {
@@ -128,27 +139,42 @@ fn test_head(file: &[u8]) -> Verdict
 fn test_rooms(first: Verdict, counts: Counts, rooms: Counts) -> Verdict
     ensures { λ r. ⌜ r ≡ testRooms first counts rooms ⌝ }
 {
-    let code = next(first, counts.code <= rooms.code, Rule::Room, 28);
-    let registers = next(code, counts.registers <= rooms.registers, Rule::Room, 32);
-    let device = next(registers, counts.device <= rooms.device, Rule::Room, 36);
-    let local = next(device, counts.local <= rooms.local, Rule::Room, 40);
-    next(local, counts.state <= rooms.state, Rule::Room, 44)
+    let code = next(first, counts.code <= rooms.code, Rule::Room, CODE_COUNT);
+    let registers = next(
+        code,
+        counts.registers <= rooms.registers,
+        Rule::Room,
+        REGISTERS_COUNT,
+    );
+    let device = next(
+        registers,
+        counts.device <= rooms.device,
+        Rule::Room,
+        DEVICE_COUNT,
+    );
+    let local = next(device, counts.local <= rooms.local, Rule::Room, LOCAL_COUNT);
+    next(local, counts.state <= rooms.state, Rule::Room, STATE_COUNT)
 }
 
 // The state's count, the sixth count, the file's end and the state's depth.
 fn test_state(first: Verdict, file: &[u8]) -> Verdict
     ensures { λ r. ⌜ r ≡ testState first (now (file .entry)) ⌝ }
 {
-    let count = get(file, 44) as usize;
+    let count = get(file, STATE_COUNT) as usize;
     let depth = depth_of(count);
     let at = places_of(file);
     let shape = next(
         first,
         (count == 0) | (count == STATE_WORDS + BLOCK_WORDS * depth),
         Rule::StateCount,
-        44,
+        STATE_COUNT,
     );
-    let sixth = next(shape, get(file, 48) == 0, Rule::SixthCount, 48);
+    let sixth = next(
+        shape,
+        get(file, SIXTH_COUNT) == 0,
+        Rule::SixthCount,
+        SIXTH_COUNT,
+    );
     let end = next(
         sixth,
         file.len() == at.end,

@@ -1,5 +1,6 @@
 // Writing a capture file.
 use crate::BLOCK_WORDS;
+use crate::DEPTH_WORD;
 use crate::EDITION;
 use crate::HEADER_BYTES;
 use crate::MARK;
@@ -45,7 +46,7 @@ fn state_fits(state: &[u32]) -> bool
     if state.len() < STATE_WORDS {
         return state.len() == 0;
     }
-    state.len() == STATE_WORDS + BLOCK_WORDS * (state[6] as usize)
+    state.len() == STATE_WORDS + BLOCK_WORDS * (state[DEPTH_WORD] as usize)
 }
 
 // Puts the file of these parts at the front of `file`, as far as it fits.

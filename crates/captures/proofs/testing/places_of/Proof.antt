@@ -53,20 +53,23 @@ mul-state c = search needs
 add-state : tie.Need-add-state
 add-state c = search needs
 
-add-t8 : tie.Need-add-t8
-add-t8 c = search needs
+mul-depth : tie.Need-mul-depth
+mul-depth c = search needs
+
+add-depth : tie.Need-add-depth
+add-depth c = search needs
 
 get-requires-5 : tie.Need-get-requires-5
 get-requires-5 c κs = search needs
 
-cast-t7 : tie.Need-cast-t7
-cast-t7 c = search needs
+cast-end : tie.Need-cast-end
+cast-end c = search needs
 
-mul-t9 : tie.Need-mul-t9
-mul-t9 c = search needs
+mul-end : tie.Need-mul-end
+mul-end c = search needs
 
-add-t10 : tie.Need-add-t10
-add-t10 c = search needs
+add-end : tie.Need-add-end
+add-end c = search needs
 
 returns : tie.Need-returns
 unfolding placesOf
@@ -92,9 +95,10 @@ places-of-spec =
     cast-state
     mul-state
     add-state
-    add-t8
+    mul-depth
+    add-depth
     get-requires-5
-    cast-t7
-    mul-t9
-    add-t10
+    cast-end
+    mul-end
+    add-end
     returns)
