@@ -15,7 +15,7 @@ use Rattle.ground.proofs.Tests.{or-cases}
 use Rattle.numbers.specs.Numbers.{bytesOfAll, numberAt, Bytes, Small}
 use Rattle.numbers.proofs.Numerals.{length-bytesOfAll, bytes-append, number-nth, number-drop, small-nil, small-cons, small-tail, small-append, small-drop, Holds, holds-join}
 use Rattle.captures.specs.declared.answer.Counts.{Counts}
-use Rattle.captures.specs.Capture.{mark, edition, headerBytes, Capture, headerOf, wordsOf, captureOf, stateWords, stateFits, fits, Filed, depthWord}
+use Rattle.captures.specs.Capture.{mark, edition, headerBytes, Capture, headOf, headerOf, wordsOf, captureOf, stateWords, stateFits, fits, Filed, depthWord}
 use Rattle.captures.specs.Read.{headAt, countsAt, placesOf, numbersAt, captureIn, depthOf, countsOf, Within}
 use Rattle.captures.proofs.Words.{length-numbers, getD-numbers, numbers-back, drop-behind, numbers-hold, numbers-small}
 use Rattle.captures.proofs.Laid.{fits-known, length-capture}
@@ -217,12 +217,12 @@ module _ (c : Capture) where
       and-both _ _ (lt-ltb _ _ (h .below 7)) (and-both _ _ (lt-ltb _ _ (h .below 8)) (and-both _ _ (lt-ltb _ _ (h .below 9)) (and-both _ _ (lt-ltb _ _ (h .below 10)) (and-both _ _ (lt-ltb _ _ (h .below 11)) (g .shape)))))
 
   -- a capture of words that has a file
-  pub fits-filed : fits c ≡ true → Small (c .head .kernel ∷ c .head .width ∷ c .head .registers ∷ c .head .lanes ∷ c .head .budget ∷ []) → Small (wordsOf c) → Filed c
+  pub fits-filed : fits c ≡ true → Small (headOf c) → Small (wordsOf c) → Filed c
   unfolding headerOf
   fits-filed e h w =
       let k = fits-known c e in
       let rest = small-append (0 ∷ []) (wordsOf c) (small-cons 0 [] (omega arith) small-nil) w in
       record {
-        small = small-cons mark _ (omega arith) (small-cons edition _ (omega arith) (small-append (c .head .kernel ∷ c .head .width ∷ c .head .registers ∷ c .head .lanes ∷ c .head .budget ∷ []) _ h (small-cons _ _ (k .code) (small-cons _ _ (k .registers) (small-cons _ _ (k .device) (small-cons _ _ (k .local) (small-cons _ _ (k .state) rest)))))));
+        small = small-cons mark _ (omega arith) (small-cons edition _ (omega arith) (small-append (headOf c) _ h (small-cons _ _ (k .code) (small-cons _ _ (k .registers) (small-cons _ _ (k .device) (small-cons _ _ (k .local) (small-cons _ _ (k .state) rest)))))));
         shape = k .shape;
       }

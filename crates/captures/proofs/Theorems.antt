@@ -2,24 +2,29 @@
 use mathlib.Core.Path.{_≡_, refl, sym, ap, _∙_}
 use Prim.Native.Nat.{ℕ, _≤_}
 use mathlib.Core.List.{List}
+use mathlib.Core.Bool.{true, false}
+use mathlib.Core.Logic.{⊎-elim}
 use native.Mathlib.Omega.{arith}
+use lib.Dec.{leb}
 use lib.ListN.{length, take, drop}
 use lib.Seq.{take-at}
-use Rattle.numbers.specs.Numbers.{Bytes}
+use borrow.Author.Tests.{leb-true}
+use Rattle.ground.proofs.Tests.{true-or-false}
+use Rattle.numbers.specs.Numbers.{Bytes, Small}
 use Rattle.numbers.proofs.Placing.{placed-front}
 use Rattle.captures.specs.declared.answer.Head.{Head}
 use Rattle.captures.specs.declared.answer.Counts.{Counts}
 use Rattle.captures.specs.declared.answer.Rule.{Rule}
 use Rattle.captures.specs.declared.answer.ReadAnswer.the-variants.{Read, Unreadable}
-use Rattle.captures.specs.declared.answer.WriteAnswer.the-variants.{Wrote}
+use Rattle.captures.specs.declared.answer.WriteAnswer.the-variants.{Wrote, Refused}
 use Rattle.captures.specs.declared.testing.Verdict.{Verdict}
 use Rattle.captures.specs.declared.testing.Verdict.the-variants.{Fine, Broken}
-use Rattle.captures.specs.Capture.{Capture, captureOf, Filed}
-use Rattle.captures.specs.Write.{Writing, writeOf}
+use Rattle.captures.specs.Capture.{Capture, headOf, wordsOf, captureOf, fits, Filed}
+use Rattle.captures.specs.Write.{short, notOfLayout, Writing, writeOf}
 use Rattle.captures.specs.Read.{captureIn, verdictOf, Lent, roomsOf, countsOf, Within, filled, reading, judged, readOf}
 use Rattle.captures.proofs.Laid.{write-so}
 use Rattle.captures.proofs.Accepted.{accepted, is-accepted, read-fine}
-use Rattle.captures.proofs.Files.{head-back, counts-back, capture-back, file-accepted, file-back, file-filed, counts-in, filed-fits}
+use Rattle.captures.proofs.Files.{head-back, counts-back, capture-back, file-accepted, file-back, file-filed, counts-in, filed-fits, fits-filed}
 
 -- THEOREM: the file of a capture is read as that capture, wherever there is room for it ...
 pub read-back : (c : Capture) → Filed c → (l : Lent) → Within (countsOf c) (roomsOf l) → readOf (captureOf c) l ≡ reading (Read (c .head) (countsOf c)) (filled c l)
@@ -27,14 +32,19 @@ read-back c g l w =
     let v = is-accepted (captureOf c) (roomsOf l) (file-accepted c g (roomsOf l) w) in
     sym (read-fine (captureOf c) l Fine (sym v) (c .head) (countsOf c) (filled c l) refl (ap (λ (d : Capture). filled d l) (sym (capture-back c g))) (sym (head-back c g)) (sym (counts-back c g)))
 
+-- the front of a buffer that a file was written to
+written-front : (c : Capture) (o : List ℕ) → fits c ≡ true → length (captureOf c) ≤ length o → take (length (captureOf c)) (writeOf c o .file) ≡ captureOf c
+written-front c o e h =
+    ap (λ (x : Writing). take (length (captureOf c)) (x .file)) (sym (write-so c o _ _ e refl h refl))
+    ∙ ap (take (length (captureOf c))) (placed-front o (captureOf c) h)
+    ∙ take-at (captureOf c) (drop (length (captureOf c)) o) _ refl
+
 -- ... and that file is what stands in a buffer that it was written to
 pub write-read : (c : Capture) → Filed c → (o : List ℕ) → length (captureOf c) ≤ length o → (l : Lent) → Within (countsOf c) (roomsOf l)
     → (writeOf c o .answer ≡ Wrote (length (captureOf c))) × (readOf (take (length (captureOf c)) (writeOf c o .file)) l ≡ reading (Read (c .head) (countsOf c)) (filled c l))
 write-read c g o h l w =
-    let e = write-so c o _ _ (filed-fits c g) refl h refl in
-    let front = placed-front o (captureOf c) h in
-    let there : take (length (captureOf c)) (writeOf c o .file) ≡ captureOf c = ap (λ (x : Writing). take (length (captureOf c)) (x .file)) (sym e) ∙ ap (take (length (captureOf c))) front ∙ take-at (captureOf c) (drop (length (captureOf c)) o) _ refl in
-    (ap (λ (x : Writing). x .answer) (sym e), ap (λ (f : List ℕ). readOf f l) there ∙ read-back c g l w)
+    let e = filed-fits c g in
+    (ap (λ (x : Writing). x .answer) (sym (write-so c o _ _ e refl h refl)), ap (λ (f : List ℕ). readOf f l) (written-front c o e h) ∙ read-back c g l w)
 
 -- THEOREM: no two captures have the same file
 pub one-capture : (c d : Capture) → Filed c → Filed d → captureOf c ≡ captureOf d → c ≡ d
@@ -74,6 +84,33 @@ read-given f l h n by e = accepted-given f (roomsOf l) by (read-tells (verdictOf
 
 pub given-read : (f : List ℕ) (l : Lent) (g : Given f (roomsOf l)) → readOf f l ≡ reading (Read (g .capture .head) (countsOf (g .capture))) (filled (g .capture) l)
 given-read f l g = ap (λ (x : List ℕ). readOf x l) (sym (g .file)) ∙ read-back (g .capture) (g .filed) l (g .within)
+
+-- ---- written files
+
+write-tells : (c : Capture) (o : List ℕ) (n : ℕ) → writeOf c o .answer ≡ Wrote n → (fits c ≡ true) × (length (captureOf c) ≤ length o) × (length (captureOf c) ≡ n)
+unfolding writeOf
+write-tells c o n e =
+    ⊎-elim
+    (λ (h : fits c ≡ true).
+    ⊎-elim
+    (λ (k : leb (length (captureOf c)) (length o) ≡ true). let y : Wrote (length (captureOf c)) ≡ Wrote n = simp (h, k) at e in (h, leb-true _ _ k, cc))
+    (λ (k : leb (length (captureOf c)) (length o) ≡ false). let y : Refused short 0 ≡ Wrote n = simp (h, k) at e in absurd (let z : _≡_ {A = ℕ} 0 1 = cc in omega arith))
+    (true-or-false (leb (length (captureOf c)) (length o))))
+    (λ (h : fits c ≡ false). let y : Refused notOfLayout 0 ≡ Wrote n = simp h at e in absurd (let z : _≡_ {A = ℕ} 0 1 = cc in omega arith))
+    (true-or-false (fits c))
+
+-- THEOREM: what was written is the file of a capture, for numbers of four bytes
+pub written-given : (c : Capture) (o : List ℕ) (n : ℕ) → Small (headOf c) → Small (wordsOf c) → writeOf c o .answer ≡ Wrote n → Given (take n (writeOf c o .file)) (countsOf c)
+written-given c o n h w e =
+    let t = write-tells c o n e in
+    record {
+      capture = c;
+      filed = fits-filed c (t .0) h w;
+      within = record { code = omega arith; registers = omega arith; device = omega arith; local = omega arith; state = omega arith };
+      file = sym (ap (λ (k : ℕ). take k (writeOf c o .file)) (sym (t .2)) ∙ written-front c o (t .0) (t .1));
+    }
+
+-- ---- refusals
 
 -- a file that is refused changes nothing
 refusal-keeps : (v : Verdict) (f : List ℕ) (l : Lent) (r : Rule) (p : ℕ) → judged v f l .answer ≡ Unreadable r p → judged v f l .after ≡ l

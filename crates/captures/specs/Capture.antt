@@ -14,6 +14,7 @@ use Rattle.captures.specs.declared.answer.Head.{Head}
 abbrev pub mark : ℕ
 mark = 0x50414357
 
+-- the edition of the file's shape
 abbrev pub edition : ℕ
 edition = 1
 
@@ -59,15 +60,20 @@ pub record Capture : Type 0 where
   pub local : List ℕ
   pub state : List ℕ
 
+-- the capture of these parts
 abbrev pub captured : Head → List ℕ → List ℕ → List ℕ → List ℕ → List ℕ → Capture
 captured head code registers device local state =
     record { head = head; code = code; registers = registers; device = device; local = local; state = state }
 
+-- kernel number and settings
+abbrev pub headOf : Capture → List ℕ
+headOf c = c .head .kernel ∷ c .head .width ∷ c .head .registers ∷ c .head .lanes ∷ c .head .budget ∷ []
+
 -- the header's numbers; the sixth count is 0
 unfoldable pub headerOf : Capture → List ℕ
 headerOf c =
-    mark ∷ edition ∷ c .head .kernel ∷ c .head .width ∷ c .head .registers ∷ c .head .lanes ∷ c .head .budget
-    ∷ length (c .code) ∷ length (c .registers) ∷ length (c .device) ∷ length (c .local) ∷ length (c .state) ∷ 0 ∷ []
+    mark ∷ edition ∷ (headOf c
+    ++ (length (c .code) ∷ length (c .registers) ∷ length (c .device) ∷ length (c .local) ∷ length (c .state) ∷ 0 ∷ []))
 
 -- the words of each part, in that order
 unfoldable pub wordsOf : Capture → List ℕ

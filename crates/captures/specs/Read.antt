@@ -18,6 +18,7 @@ use Rattle.captures.specs.Capture.{mark, edition, headerBytes, codeCount
 
 -- ---- what a file holds
 
+-- kernel number and settings
 unfoldable pub headAt : List ℕ → Head
 headAt f = record { kernel = numberAt f 8; width = numberAt f 12; registers = numberAt f 16; lanes = numberAt f 20; budget = numberAt f 24 }
 
@@ -90,7 +91,7 @@ testState v f =
     let c = next b (eqb (length f) (at .end)) Rule.Length (min (length f) (at .end)) in
     next c (eqb n 0 || eqb (numberAt f (at .depth)) (depthOf n)) Rule.Depth (at .depth)
 
--- all tests, in this order
+-- all tests, in this order: the head's, the rooms', the state's
 unfoldable pub verdictOf : List ℕ → Counts → Verdict
 verdictOf f rooms = testState (testRooms (testHead f) (countsAt f) rooms) f
 
@@ -107,6 +108,7 @@ pub record Lent : Type 0 where
 abbrev pub lent : List ℕ → List ℕ → List ℕ → List ℕ → List ℕ → Lent
 lent code registers device local state = record { code = code; registers = registers; device = device; local = local; state = state }
 
+-- the room that there is in each buffer
 unfoldable pub roomsOf : Lent → Counts
 roomsOf l =
     record {
@@ -149,10 +151,11 @@ pub record Reading : Type 0 where
 abbrev pub reading : ReadAnswer → Lent → Reading
 reading r l = record { answer = r; after = l }
 
--- a broken rule changes nothing
+-- by the verdict: what the file holds, or the broken rule, which changes nothing
 unfoldable pub judged : Verdict → List ℕ → Lent → Reading
 judged Fine f l = reading (Read (headAt f) (countsAt f)) (filled (captureIn f) l)
 judged (Broken rule place) f l = reading (Unreadable rule place) l
 
+-- what reading answers and leaves
 unfoldable pub readOf : List ℕ → Lent → Reading
 readOf f l = judged (verdictOf f (roomsOf l)) f l
