@@ -11,19 +11,29 @@ places-of-requires : tie.Need-places-of-requires
 places-of-requires c κs = search needs
 
 take-words-requires : tie.Need-take-words-requires
-take-words-requires c κs = room-code _ _ (c .before .before .before .before .before .before .before .before .before .pre) _ (c .before .before .counts-of .ensures)
+take-words-requires c κs =
+    let at = c .before in
+    room-code _ _ (at .before .before .before .before .before .before .before .before .pre) _ (at .before .counts-of .ensures)
 
 take-words-requires-2 : tie.Need-take-words-requires-2
-take-words-requires-2 c κs = room-registers _ _ (c .before .before .before .before .before .before .before .before .before .before .before .before .before .pre) _ (c .before .before .before .before .before .before .counts-of .ensures) _ (c .before .before .before .before .before .places-of .ensures)
+take-words-requires-2 c κs =
+    let at = c .before .before .before .before .before in
+    room-registers _ _ (at .before .before .before .before .before .before .before .before .pre) _ (at .before .counts-of .ensures) _ (at .places-of .ensures)
 
 take-words-requires-3 : tie.Need-take-words-requires-3
-take-words-requires-3 c κs = room-device _ _ (c .before .before .before .before .before .before .before .before .before .before .before .before .before .before .before .before .before .pre) _ (c .before .before .before .before .before .before .before .before .before .before .counts-of .ensures) _ (c .before .before .before .before .before .before .before .before .before .places-of .ensures)
+take-words-requires-3 c κs =
+    let at = c .before .before .before .before .before .before .before .before .before in
+    room-device _ _ (at .before .before .before .before .before .before .before .before .pre) _ (at .before .counts-of .ensures) _ (at .places-of .ensures)
 
 take-words-requires-4 : tie.Need-take-words-requires-4
-take-words-requires-4 c κs = room-local _ _ (c .before .before .before .before .before .before .before .before .before .before .before .before .before .before .before .before .before .before .before .before .before .pre) _ (c .before .before .before .before .before .before .before .before .before .before .before .before .before .before .counts-of .ensures) _ (c .before .before .before .before .before .before .before .before .before .before .before .before .before .places-of .ensures)
+take-words-requires-4 c κs =
+    let at = c .before .before .before .before .before .before .before .before .before .before .before .before .before in
+    room-local _ _ (at .before .before .before .before .before .before .before .before .pre) _ (at .before .counts-of .ensures) _ (at .places-of .ensures)
 
 take-words-requires-5 : tie.Need-take-words-requires-5
-take-words-requires-5 c κs = room-state _ _ (c .before .before .before .before .before .before .before .before .before .before .before .before .before .before .before .before .before .before .before .before .before .before .before .before .before .pre) _ (c .before .before .before .before .before .before .before .before .before .before .before .before .before .before .before .before .before .before .counts-of .ensures) _ (c .before .before .before .before .before .before .before .before .before .before .before .before .before .before .before .before .before .places-of .ensures)
+take-words-requires-5 c κs =
+    let at = c .before .before .before .before .before .before .before .before .before .before .before .before .before .before .before .before .before in
+    room-state _ _ (at .before .before .before .before .before .before .before .before .pre) _ (at .before .counts-of .ensures) _ (at .places-of .ensures)
 
 same-length : tie.Need-same-length
 same-length c = search needs
@@ -42,8 +52,9 @@ same-length-5 c = search needs
 
 returns : tie.Need-returns
 returns c =
-    taken _ _ _ (c .before .before .before .before .before .before .before .before .before .before .before .before .before .before .before .before .before .before .before .before .before .counts-of .ensures) _ (c .before .before .before .before .before .before .before .before .before .before .before .before .before .before .before .before .before .before .before .before .places-of .ensures) _ _ _ _ _
-    (c .before .before .before .before .before .before .before .before .before .before .before .before .before .before .before .before .before .before .take-words .ensures)
+    let words = c .before .before .before .before .before .before .before .before .before .before .before .before .before .before .before .before .before .before in
+    taken _ _ _ (words .before .before .before .counts-of .ensures) _ (words .before .before .places-of .ensures) _ _ _ _ _
+    (words .take-words .ensures)
     (c .before .before .before .before .before .before .before .before .before .before .before .before .before .before .take-words2 .ensures)
     (c .before .before .before .before .before .before .before .before .before .before .take-words3 .ensures)
     (c .before .before .before .before .before .before .take-words4 .ensures)

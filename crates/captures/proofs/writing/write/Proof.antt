@@ -26,7 +26,7 @@ add-words-3 c = search needs
 add-words-4 : tie.Need-add-words-4
 add-words-4 c = search needs
 
-fitting : (c : tie.Else1) → Fitting (captured (c .before .before .before .before .before .before .before .before .args .head) (c .before .before .before .before .before .before .before .before .args .code .now) (c .before .before .before .before .before .before .before .before .args .registers .now) (c .before .before .before .before .before .before .before .before .args .device .now) (c .before .before .before .before .before .before .before .before .args .local .now) (c .before .before .before .before .before .before .before .before .args .state .now))
+fitting : (c : tie.Else1) → Fitting (let a = c .before .before .before .before .before .before .before .before .args in captured (a .head) (a .code .now) (a .registers .now) (a .device .now) (a .local .now) (a .state .now))
 fitting c = fits-known _ (sym (fits-so _ _ (c .before .state-fits .ensures)) ∙ not-false _ (c .if1 .left))
 
 mul-total : tie.Need-mul-total
@@ -45,7 +45,9 @@ same-length : tie.Need-same-length
 same-length c = search needs
 
 returns-3 : tie.Need-returns-3
-returns-3 c = write-so _ _ _ _ (sym (fits-so _ _ (c .before .before .before .before .before .before .state-fits .ensures)) ∙ not-false _ (c .before .before .before .before .before .if1 .left)) (sym (length-capture _)) (c .before .before .before .before .if2 .left) (c .before .before .give-parts .ensures)
+returns-3 c =
+    let room = c .before .before .before .before in
+    write-so _ _ _ _ (sym (fits-so _ _ (room .before .before .state-fits .ensures)) ∙ not-false _ (room .before .if1 .left)) (sym (length-capture _)) (room .if2 .left) (c .before .before .give-parts .ensures)
 
 pub write-spec : {M : Type 1} → statement M
 write-spec =
