@@ -3,6 +3,8 @@
 mod days;
 mod instructions;
 mod lines;
+mod runs;
+mod states;
 
 use libc::STDIN_FILENO;
 use libc::STDOUT_FILENO;
@@ -15,6 +17,8 @@ fn answer(kind: u32, case: &[u8], out: &mut [u8]) -> usize {
     match kind {
         1 => instructions::answer_read(case, out),
         2 => instructions::answer_write(case, out),
+        3 => runs::answer_run(case, out),
+        4 => runs::answer_key(case, out),
         5 => days::answer_make(case, out),
         6 => days::answer_read(case, out),
         7 => days::answer_list(case, out),
