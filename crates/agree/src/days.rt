@@ -1,10 +1,12 @@
-// Cases about day files: making one, reading a record of one, listing one. Each answers how many bytes its answer has.
-use crate::lines::give_length;
-use crate::lines::give_padding;
-use crate::lines::give_words;
-use crate::lines::low;
-use crate::lines::mark;
-use crate::lines::number;
+// Cases about day files: making one, reading a record of one, listing one. Each answers how many bytes its answer has, none where the
+// case's bytes are not all there or the answer has no room. The bytes begin behind the case's numbers: two of them, or one to list.
+use crate::format::LENGTH_BYTES;
+use crate::format::give_length;
+use crate::format::give_padding;
+use crate::format::give_words;
+use crate::format::low;
+use crate::format::mark;
+use crate::format::number;
 use dayfile::answer::CountAnswer;
 use dayfile::answer::MakeAnswer;
 use dayfile::answer::ReadAnswer;
@@ -27,20 +29,20 @@ fn give_made(out: &mut [u8], made: MakeAnswer) -> usize {
 // The day file of a case's bodies. The bytes of the room that it is made in are part of the answer.
 pub fn answer_make(case: &[u8], out: &mut [u8]) -> usize {
     let last = 8 + number(case, 0) as usize;
-    let end = 12 + number(case, 1) as usize;
+    let end = LENGTH_BYTES + number(case, 1) as usize;
     if case.len() < last {
         return 0;
     }
     if out.len() < end {
         return 0;
     }
-    let made = make_in(&case[8..last], &mut out[12..end]);
+    let made = make_in(&case[8..last], &mut out[LENGTH_BYTES..end]);
     give_made(out, made);
     give_padding(out, end)
 }
 
 // The count of a file's records.
-fn give_count(file: &[u8], out: &mut [u8]) -> usize {
+fn give_count(out: &mut [u8], file: &[u8]) -> usize {
     let mut firsts = [0u32; dayfile::MOST_RECORDS];
     match dayfile::firsts(file, &mut firsts) {
         CountAnswer::Count(n) => give_length(out, 0, 0, 0, n),
@@ -49,7 +51,7 @@ fn give_count(file: &[u8], out: &mut [u8]) -> usize {
 }
 
 // What is said of record i.
-fn give_record(file: &[u8], i: usize, out: &mut [u8], at: usize) -> usize {
+fn give_record(out: &mut [u8], at: usize, file: &[u8], i: usize) -> usize {
     match dayfile::read(file, i) {
         ReadAnswer::Record {
             place,
@@ -67,8 +69,8 @@ pub fn answer_read(case: &[u8], out: &mut [u8]) -> usize {
     if case.len() < last {
         return 0;
     }
-    let at = give_count(&case[8..last], out);
-    give_record(&case[8..last], i, out, at)
+    let at = give_count(out, &case[8..last]);
+    give_record(out, at, &case[8..last], i)
 }
 
 // The listing's text of a file.

@@ -1,9 +1,10 @@
-// Cases about one instruction: reading it, writing it. Each answers how many bytes its answer has.
-use crate::lines::LENT_WORD;
-use crate::lines::give_length;
-use crate::lines::give_words;
-use crate::lines::number;
-use crate::lines::take_words;
+// Cases about one instruction: reading it, writing it. Each answers how many bytes its answer has, none where a case has more words or
+// room than there is here.
+use crate::format::LENT_WORD;
+use crate::format::give_length;
+use crate::format::give_words;
+use crate::format::number;
+use crate::format::take_words;
 use words::instr::Guard;
 use words::instr::Instr;
 use words::instr::Op;
@@ -16,8 +17,8 @@ use words::table::opcode_of;
 use words::writing::WriteAnswer;
 use words::writing::write;
 
-// The longest case has so many words, and the largest room.
-const MOST_WORDS: usize = 4;
+// The most words that a case has, and the largest room.
+const MOST_WORDS: usize = 64;
 
 // The number of an operation: its opcode times 16, and its modifier.
 fn operation_number(op: Op) -> u32 {
@@ -83,8 +84,8 @@ fn fields_fit(case: &[u8]) -> bool {
         & (number(case, 7) < 256)
 }
 
-// The lanes that a case's instruction is for. A field of more than a byte has no words, nor has it a value here: the instruction is
-// given the predicate 255 instead, with which none has words.
+// The lanes that a case's instruction is for. A field of more than a byte is in no instruction here, and no words give it: such a case is
+// asked with predicate 255 instead, which no words give either.
 fn guard_of(case: &[u8]) -> Guard {
     let pred = if fields_fit(case) {
         field(number(case, 7))

@@ -1,8 +1,8 @@
 // Answers the cases on standard input, on standard output, in the format of second/src/cases/mod.rs: for each of the page's functions,
 // what the library's function answers.
 mod days;
+mod format;
 mod instructions;
-mod lines;
 mod runs;
 mod states;
 

@@ -1,13 +1,14 @@
-// Cases about runs, and about keys alone. Each answers how many bytes its answer has.
+// Cases about runs, and about keys alone. Each answers how many bytes its answer has, none where a case has more words or room than there
+// is here.
 //
-// The words of a run's case stand in arrays of their own. Each function has one of them, and lends the part that the case fills to the
-// next; a case that has more is not answered.
-use crate::lines::give_length;
-use crate::lines::give_padding;
-use crate::lines::give_words;
-use crate::lines::mark;
-use crate::lines::number;
-use crate::lines::take_words;
+// The words of a run's case go into arrays: each function has one of them, and lends the part that the case fills to the next.
+use crate::format::LENGTH_BYTES;
+use crate::format::give_length;
+use crate::format::give_padding;
+use crate::format::give_words;
+use crate::format::mark;
+use crate::format::number;
+use crate::format::take_words;
 use crate::states::give_outcome;
 use crate::states::give_state;
 use crate::states::outcome_of;
@@ -19,6 +20,11 @@ use replay::doors::launch;
 use replay::doors::resume;
 use replay::settings::Settings;
 use std::num::wrapping_add_usize;
+
+// Where the words of a run's case begin, behind eleven numbers, and the state of a key's case, behind ten.
+const RUN_WORDS: usize = 44;
+
+const KEY_STATE: usize = 40;
 
 // The most words that a case has of code, of registers, and of each memory.
 const MOST_CODE: usize = 65537;
@@ -43,13 +49,13 @@ fn give_wrote(out: &mut [u8], at: usize, wrote: KeyAnswer) -> usize {
 
 // The key of what a run answered. The bytes of the room that it is written in are part of the answer.
 fn give_key(out: &mut [u8], at: usize, kernel: u32, answer: Replayed, room: usize) -> usize {
-    let from = wrapping_add_usize(at, 12);
+    let from = wrapping_add_usize(at, LENGTH_BYTES);
     let end = wrapping_add_usize(from, room);
     if end < from {
-        return at;
+        return 0;
     }
     if out.len() < end {
-        return at;
+        return 0;
     }
     let wrote = write_in(kernel, answer, &mut out[from..end]);
     give_wrote(out, at, wrote);
@@ -61,7 +67,7 @@ pub fn answer_key(case: &[u8], out: &mut [u8]) -> usize {
     let answer = Replayed {
         outcome: outcome_of(case),
         steps: 0,
-        state: state_at(case, 40),
+        state: state_at(case, KEY_STATE),
     };
     give_key(out, 0, number(case, 0), answer, number(case, 1) as usize)
 }
@@ -157,7 +163,7 @@ fn with_registers(case: &[u8], at: usize, code: &[u32], regs: &mut [u32], out: &
 
 // The run with the words of the code, which are the first.
 fn with_code(case: &[u8], code: &mut [u32], out: &mut [u8]) -> usize {
-    let next = take_words(case, 44, code);
+    let next = take_words(case, RUN_WORDS, code);
     let mut words = [0u32; MOST_REGISTERS];
     let n = number(case, 6) as usize;
     if n <= MOST_REGISTERS {

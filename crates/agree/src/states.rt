@@ -1,8 +1,8 @@
 // Outcomes and states as numbers of cases and answers.
-use crate::lines::give_words;
-use crate::lines::low;
-use crate::lines::number;
-use crate::lines::take_words;
+use crate::format::give_words;
+use crate::format::low;
+use crate::format::number;
+use crate::format::take_words;
 use compute::Faults;
 use packing::STATE_WORDS;
 use packing::state_of;

@@ -1,7 +1,6 @@
 -- The part of the room that is lent has as many words as the case.
-use mathlib.Core.Path.{sym}
 use native.Mathlib.Omega.{arith}
-use lib.Seq.{length-take-le}
+use Rattle.agree.proofs.Rooms.{part-length}
 use borrow.Author.Needs.{needs}
 use Rattle.agree.proofs.instructions.answer_read.Statement.{statement}
 use Rattle.agree.proofs.instructions.answer_read.Tie as tie
@@ -16,7 +15,7 @@ array-borrow-prefix-words : tie.Need-array-borrow-prefix-words
 array-borrow-prefix-words c = search needs
 
 slice-aggregate-read-words : tie.Need-slice-aggregate-read-words
-slice-aggregate-read-words c = sym (length-take-le _ _ (omega arith))
+slice-aggregate-read-words c = part-length 64 0 _ (omega arith)
 
 read-words-requires : tie.Need-read-words-requires
 read-words-requires c κs = search needs

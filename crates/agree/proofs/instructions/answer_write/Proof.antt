@@ -1,7 +1,6 @@
 -- The part of the room that is lent has as many words as the case says.
-use mathlib.Core.Path.{sym}
 use native.Mathlib.Omega.{arith}
-use lib.Seq.{length-take-le}
+use Rattle.agree.proofs.Rooms.{part-length}
 use borrow.Author.Needs.{needs}
 use Rattle.agree.proofs.instructions.answer_write.Statement.{statement}
 use Rattle.agree.proofs.instructions.answer_write.Tie as tie
@@ -31,7 +30,7 @@ array-borrow-prefix-room : tie.Need-array-borrow-prefix-room
 array-borrow-prefix-room c = search needs
 
 slice-aggregate-write-words : tie.Need-slice-aggregate-write-words
-slice-aggregate-write-words c = sym (length-take-le _ _ (omega arith))
+slice-aggregate-write-words c = part-length 64 0xA5A5A5A5 _ (omega arith)
 
 write-words-requires : tie.Need-write-words-requires
 write-words-requires c κs = search needs

@@ -1,12 +1,12 @@
 -- A state's words are seven and those of its blocks, so they hold the words that count.
-use mathlib.Core.Path.{_≡_, sym, ap, _∙_}
+use mathlib.Core.Path.{sym, ap, _∙_}
 use Prim.Native.Nat.{_≤_}
 use native.Mathlib.Omega.{arith}
 use lib.ListN.{length}
 use lib.Seq.{length-take-le}
 use borrow.Author.Needs.{needs}
 use Rattle.agree.proofs.Rooms.{words-long}
-use Rattle.packing.specs.Words.{stateWords, wordCount}
+use Rattle.packing.specs.Words.{wordCount}
 use Rattle.agree.proofs.states.give_state.Statement.{statement}
 use Rattle.agree.proofs.states.give_state.Tie as tie
 
@@ -14,10 +14,8 @@ use Rattle.agree.proofs.states.give_state.Tie as tie
 enough : (z : tie.After-word-count) → z .word-count .result ≤ length (z .before .words-of .result)
 unfolding wordCount
 enough z =
-    let l : length (z .before .words-of .result) ≡ stateWords =
-    ap length (z .before .words-of .ensures) ∙ words-long _ (z .before .before .whole .ensures) in
-    let e = z .word-count .ensures in
-    omega arith
+    let l = ap length (z .before .words-of .ensures) ∙ words-long _ (z .before .before .whole .ensures) in
+    omega (arith, l, z .word-count .ensures)
 
 whole-requires : tie.Need-whole-requires
 whole-requires c κs = search needs

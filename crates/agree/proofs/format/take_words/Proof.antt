@@ -1,28 +1,28 @@
--- The loop stays in the words, and the room keeps its length.
+-- The loop stays in the words, which keep their length.
 use Prim.Native.Nat.{_-_, _≤_}
 use mathlib.Core.Path.{_≡_}
 use lib.ListN.{length}
 use borrow.Author.Needs.{needs}
-use Rattle.agree.proofs.lines.give_words.Statement.{statement}
-use Rattle.agree.proofs.lines.give_words.Tie as tie
+use Rattle.agree.proofs.format.take_words.Statement.{statement}
+use Rattle.agree.proofs.format.take_words.Tie as tie
 
 abbrev Inv-loop : tie.InvT-loop
-Inv-loop out₀ at words q₀ i₀ out q i = (i ≤ length words) × (length out ≡ length out₀)
+Inv-loop case at words₀ q₀ i₀ words q i = (i ≤ length words₀) × (length words ≡ length words₀)
 
 abbrev μ-loop : tie.MeasureT-loop
-μ-loop out₀ at words q₀ i₀ out q i = length words - i
+μ-loop case at words₀ q₀ i₀ words q i = length words₀ - i
 
 loop-holds : tie.Need-loop-holds Inv-loop μ-loop
 loop-holds c = search needs
 
-mul-put : tie.Need-mul-put Inv-loop μ-loop
-mul-put c = search needs
+get-requires : tie.Need-get-requires Inv-loop μ-loop
+get-requires c κs = search needs
 
-shared-slice-read-put : tie.Need-shared-slice-read-put Inv-loop μ-loop
-shared-slice-read-put c = search needs
+mul-words : tie.Need-mul-words Inv-loop μ-loop
+mul-words c = search needs
 
-put-requires : tie.Need-put-requires Inv-loop μ-loop
-put-requires c κs = search needs
+slice-write-words : tie.Need-slice-write-words Inv-loop μ-loop
+slice-write-words c = search needs
 
 wrapping-add-usize-requires : tie.Need-wrapping-add-usize-requires Inv-loop μ-loop
 wrapping-add-usize-requires c κs = search needs
@@ -42,16 +42,16 @@ same-length c = search needs
 returns : tie.Need-returns Inv-loop μ-loop
 returns c = search needs
 
-pub give-words-spec : {M : Type 1} → statement M
-give-words-spec =
+pub take-words-spec : {M : Type 1} → statement M
+take-words-spec =
     tie.close
     (tie.spec
     Inv-loop
     μ-loop
     loop-holds
-    mul-put
-    shared-slice-read-put
-    put-requires
+    get-requires
+    mul-words
+    slice-write-words
     wrapping-add-usize-requires
     add-i
     loop-less

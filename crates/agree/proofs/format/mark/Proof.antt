@@ -3,8 +3,8 @@ use Prim.Native.Nat.{_-_, _≤_}
 use mathlib.Core.Path.{_≡_}
 use lib.ListN.{length}
 use borrow.Author.Needs.{needs}
-use Rattle.agree.proofs.lines.mark.Statement.{statement}
-use Rattle.agree.proofs.lines.mark.Tie as tie
+use Rattle.agree.proofs.format.mark.Statement.{statement}
+use Rattle.agree.proofs.format.mark.Tie as tie
 
 abbrev Inv-loop : tie.InvT-loop
 Inv-loop room₀ i₀ room i = (i ≤ length room₀) × (length room ≡ length room₀)

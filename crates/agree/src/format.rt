@@ -1,14 +1,17 @@
-// The numbers of cases and answers: four bytes each, low byte first.
+// Cases and answers as numbers: four bytes each, low byte first. Places are counted in bytes.
 use numbers::get;
 use numbers::put;
 use numbers::put_bytes;
 use std::num::wrapping_add_usize;
 
 // The byte that fills what is lent for output.
-pub const LENT: u8 = 0xA5;
+const LENT: u8 = 0xA5;
 
 // The word of four such bytes.
 pub const LENT_WORD: u32 = 0xA5A5_A5A5;
+
+// The bytes of a refusal's number and place, and a length.
+pub const LENGTH_BYTES: usize = 12;
 
 // Number k of a case, counted from 0; 0 past its end.
 pub fn number(case: &[u8], k: u32) -> u32 {
@@ -44,7 +47,7 @@ pub fn give_words(out: &mut [u8], at: usize, words: &[u32]) -> usize {
     q
 }
 
-// Puts a refusal's number and place, and a length.
+// Puts a refusal's number and place, and a length, and answers the place behind them.
 pub fn give_length(out: &mut [u8], at: usize, refusal: u32, place: usize, length: usize) -> usize {
     give_words(out, at, &[refusal, low(place), low(length)])
 }
