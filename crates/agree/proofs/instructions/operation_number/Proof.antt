@@ -1,0 +1,32 @@
+-- No operation's number wraps: an opcode is below 255 and a modifier below 16, row by row of the table.
+use Prim.Native.Nat.{_<_}
+use native.Mathlib.Omega.{arith}
+use Rattle.words.proofs.Rows.{table}
+use borrow.Author.Needs.{needs}
+use Rattle.agree.proofs.instructions.operation_number.Statement.{statement}
+use Rattle.agree.proofs.instructions.operation_number.Tie as tie
+
+small-opcode : (z : tie.After-opcode-of) → z .opcode-of .result < 255
+small-opcode z = rw (z .opcode-of .ensures) (table (z .before .args .op) .opcode)
+
+small-modifier : (z : tie.After-modifier-of) → z .modifier-of .result < 16
+small-modifier z = rw (z .modifier-of .ensures) (table (z .before .before .args .op) .modifier)
+
+opcode-of-requires : tie.Need-opcode-of-requires
+opcode-of-requires c κs = search needs
+
+mul-result : tie.Need-mul-result
+mul-result c = let a = small-opcode c in omega arith
+
+modifier-of-requires : tie.Need-modifier-of-requires
+modifier-of-requires c κs = search needs
+
+add-result : tie.Need-add-result
+add-result c = let a = small-opcode (c .before) in let b = small-modifier c in omega arith
+
+returns : tie.Need-returns
+returns c = search needs
+
+pub operation-number-spec : {M : Type 1} → statement M
+operation-number-spec =
+    tie.close (tie.spec opcode-of-requires mul-result modifier-of-requires add-result returns)
