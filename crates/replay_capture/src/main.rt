@@ -1,0 +1,6 @@
+// Replays a capture.
+mod report;
+mod running;
+mod saving;
+
+fn main() {}
