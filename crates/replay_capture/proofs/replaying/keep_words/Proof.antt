@@ -1,6 +1,5 @@
 -- What was written is part of the file's room.
 use mathlib.Core.Path.{sym}
-use native.Mathlib.Omega.{arith}
 use lib.Seq.{length-take-le}
 use borrow.Author.Needs.{needs}
 use Rattle.replay_capture.proofs.replaying.keep_words.Statement.{statement}
