@@ -33,8 +33,8 @@ const EDITION: u32 = 1;
 const HEADER: usize = 13;
 /// The header's first count.
 const COUNTS: usize = 7;
-/// The most words of code, registers, device memory and local memory.
-const ROOM: [usize; 4] = [65_537, 16_384, 262_144, 65_536];
+/// The most words of code, registers, device memory, local memory and state (of depth 64).
+const ROOM: [usize; 5] = [65_537, 16_384, 262_144, 65_536, 391];
 /// The words of a state with no open block.
 const STATE_WORDS: usize = 7;
 /// The words of an open block.

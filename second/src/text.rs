@@ -112,6 +112,13 @@ fn each_line(
     Ok(all)
 }
 
+/// The words of lines of code.
+pub fn code(text: &str) -> Result<Vec<u32>, String> {
+    let lines = text.lines().map(str::trim).filter(|line| !line.is_empty());
+    let words: Result<Vec<_>, _> = lines.map(code_line).collect();
+    Ok(words?.concat())
+}
+
 /// The words of a line of code.
 fn code_line(line: &str) -> Result<Vec<u32>, String> {
     if let Some(word) = line.strip_prefix("word ") {

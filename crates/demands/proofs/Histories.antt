@@ -13,10 +13,12 @@ use Rattle.wave.specs.Wave.{Wave, stateOf, waveIn}
 use Rattle.wave.specs.FitsTest.{fitsTest}
 use Rattle.wave.proofs.View.{wave-in}
 use Rattle.wave.proofs.Stays.{path-room}
+use Rattle.compute.specs.declared.Faults.{Faults}
 use Rattle.compute.specs.Memory.{Memories}
 use Rattle.replay.specs.declared.settings.Settings.{Settings}
-use Rattle.replay.specs.declared.answers.Outcome.the-variants.{Ended}
+use Rattle.replay.specs.declared.answers.Outcome.the-variants.{Ended, Fault}
 use Rattle.replay.specs.Machine.{Machine}
+use Rattle.replay.specs.Step.{stepOf}
 use Rattle.replay.specs.Run.{runOf}
 use Rattle.replay.specs.Replay.{mostWords, mostSteps, unless, launchTest, resumeTest, Answered, ending, launchMachine, stateMachine}
 use Rattle.replay.specs.Calls.{budgeted, resumedWith}
@@ -38,14 +40,25 @@ use Rattle.replay.proofs.Returns.{
 }
 use Rattle.demands.specs.Steps.{Step, stepsOf}
 use Rattle.demands.specs.Path.{pathFrom}
-use Rattle.demands.specs.History.{Point, further, furtherBy, afterLaunch, afterResume}
+use Rattle.demands.specs.History.{
+  Point,
+  further,
+  furtherBy,
+  afterLaunch,
+  afterResume,
+  Allowed,
+  Start,
+  byLaunch,
+  fromState,
+  Calls,
+  testAt,
+  blocksAt,
+  lastOf,
+  History,
+}
 use Rattle.demands.specs.Closing.{EachHandsBack}
 use Rattle.demands.proofs.Following.{Told, told-none, run-told}
-
--- each budget is allowed
-abbrev pub Allowed : List ℕ → Type 0
-Allowed [] = Unit
-Allowed (b ∷ bs) = (b ≤ mostSteps) × Allowed bs
+use Rattle.demands.proofs.Stopping.{FaultsAt, run-stops}
 
 -- what the steps tell of the state that was answered, with bs the blocks that were open before them
 pub record Tells (bs : List Block) (p : Point) : Type 0 where
@@ -55,18 +68,20 @@ pub record Tells (bs : List Block) (p : Point) : Type 0 where
   pub back : EachHandsBack bs (waveIn (p .answer .state) .active) (p .steps)
 
 module _ (s : Settings) (code : List ℕ) (l : Launchable s code) (bs : List Block) where
-  -- at a point of a history the answer holds a machine that is in order, of which the steps tell
-  record Holds (p : Point) : Type 0 where
-    machine : Machine
-    state : p .answer .state ≡ stateOf (machine .wave) (machine .preds)
-    regs : p .answer .regs ≡ machine .regs
-    memories : p .answer .memories ≡ machine .memories
-    order : InOrder s code l machine
-    told : Told bs (p .steps) (machine .wave)
+  -- at a point of a history the answer holds a machine that is in order, of which the steps tell; at a fault its instruction faults
+  pub record Holds (p : Point) : Type 0 where
+    pub machine : Machine
+    pub state : p .answer .state ≡ stateOf (machine .wave) (machine .preds)
+    pub regs : p .answer .regs ≡ machine .regs
+    pub memories : p .answer .memories ≡ machine .memories
+    pub order : InOrder s code l machine
+    pub told : Told bs (p .steps) (machine .wave)
+    pub stops : (f : Faults) → p .answer .outcome ≡ Fault f → FaultsAt s code machine f
 
   -- a run with a budget from such a machine
   run-holds : (b : ℕ) (m : Machine) (es : List Step) → InOrder s code l m → Told bs es (m .wave)
       → Holds (record { answer = ending (runOf (budgeted b s) code b m); steps = stepsOf (budgeted b s) code b m es })
+  unfolding stepOf
   run-holds b m es o r =
       let short : length code ≤ mostWords = leb-true (length code) mostWords (l .short) in
       record {
@@ -80,6 +95,8 @@ module _ (s : Settings) (code : List ℕ) (l : Launchable s code) (bs : List Blo
               long = run-long (budgeted b s) code b m ∙ o .long;
             };
         told = run-told code (s .registers) (l .checked) short (budgeted b s) (s .lanes) bs b m es (o .fits) r;
+        stops =
+            λ f e. let z = run-stops (budgeted b s) code f b m e in record { unended = z .unended; unclear = z .unclear; faults = z .faults };
       }
 
   roomy : (m : Machine) → InOrder s code l m → stateMachine (stateOf (m .wave) (m .preds)) (m .regs) (m .memories .device) (m .memories .local) ≡ m
@@ -125,23 +142,28 @@ module _ (s : Settings) (code : List ℕ) (l : Launchable s code) (bs : List Blo
         back = subst (λ (w : Wave). EachHandsBack bs (w .active) (p .steps)) (sym (wave-is p d)) (d .told .handed);
       }
 
+-- what the last answer of a history holds
+pub record Held (c : Calls) : Type 0 where
+  pub launch : Launchable (c .settings) (c .code)
+  pub holds : Holds (c .settings) (c .code) launch (blocksAt (c .start)) (lastOf c)
+
 module _ (s : Settings) (code regs device local : List ℕ) (budgets : List ℕ) (allowed : Allowed budgets) where
-  -- FROM A LAUNCH: from the steps alone
-  pub launch-tells : launchTest s code regs ≡ Fine → Tells [] (furtherBy s code budgets (afterLaunch s code regs device local))
-  launch-tells e =
+  -- the calls of a launch, and of a resume from a state
+  abbrev calls : Start → Calls
+  calls start = record { settings = s; start = start; code = code; regs = regs; device = device; local = local; budgets = budgets }
+
+  launch-held : launchTest s code regs ≡ Fine → Held (calls byLaunch)
+  launch-held e =
       let l = launchable s (s .budget) code regs e in
       let m : Machine = launchMachine s regs device local in
       let start : Holds s code l [] (afterLaunch s code regs device local) =
       subst (λ (x : Answered). Holds s code l [] (record { answer = x; steps = stepsOf s code (s .budget) m [] }))
       (sym (launched s code regs device local e))
       (run-holds s code l [] (s .budget) m [] (launch-in-order s code l regs device local (right-length s code regs e)) (told-none (m .wave))) in
-      tells s code l [] (furtherBy s code budgets (afterLaunch s code regs device local))
-      (history-holds s code l [] budgets (afterLaunch s code regs device local) allowed start)
+      record { launch = l; holds = history-holds s code l [] budgets (afterLaunch s code regs device local) allowed start }
 
-  -- FROM A HANDED-IN STATE: what went before is read from that state's sets
-  pub resume-tells : (state : State) → resumeTest s state code regs ≡ Fine
-      → Tells (waveIn state .path) (furtherBy s code budgets (afterResume s state code regs device local))
-  resume-tells state e =
+  resume-held : (state : State) → resumeTest s state code regs ≡ Fine → Held (calls (fromState state))
+  resume-held state e =
       let fitting : Checked = unless (fitsTest code (s .registers) (s .lanes) (state .hot) (state .blocks)) 11 in
       let first-tests : launchTest s code regs ≡ Fine = then-first (launchTest s code regs) fitting e in
       let l = launchable s (s .budget) code regs first-tests in
@@ -153,5 +175,24 @@ module _ (s : Settings) (code regs device local : List ℕ) (budgets : List ℕ)
       let start : Holds s code l bs (afterResume s state code regs device local) =
       subst (λ (x : Answered). Holds s code l bs (record { answer = x; steps = stepsOf s code (s .budget) m [] }))
       (sym (resumed s code regs device local state e)) (run-holds s code l bs (s .budget) m [] o (told-none (m .wave))) in
-      tells s code l bs (furtherBy s code budgets (afterResume s state code regs device local))
-      (history-holds s code l bs budgets (afterResume s state code regs device local) allowed start)
+      record { launch = l; holds = history-holds s code l bs budgets (afterResume s state code regs device local) allowed start }
+
+  held : (start : Start) → testAt start (calls start) ≡ Fine → Held (calls start)
+  held byLaunch e = launch-held e
+  held (fromState state) e = resume-held state e
+
+  -- FROM A LAUNCH: from the steps alone
+  pub launch-tells : launchTest s code regs ≡ Fine → Tells [] (furtherBy s code budgets (afterLaunch s code regs device local))
+  launch-tells e =
+      let h = launch-held e in
+      tells s code (h .launch) [] (furtherBy s code budgets (afterLaunch s code regs device local)) (h .holds)
+
+  -- FROM A HANDED-IN STATE: what went before is read from that state's sets
+  pub resume-tells : (state : State) → resumeTest s state code regs ≡ Fine
+      → Tells (waveIn state .path) (furtherBy s code budgets (afterResume s state code regs device local))
+  resume-tells state e =
+      let h = resume-held state e in
+      tells s code (h .launch) (waveIn state .path) (furtherBy s code budgets (afterResume s state code regs device local)) (h .holds)
+
+pub history-held : (c : Calls) → History c → Held c
+history-held c h = held (c .settings) (c .code) (c .regs) (c .device) (c .local) (c .budgets) (h .later) (c .start) (h .first)

@@ -1,10 +1,18 @@
 // Makes a day file from bodies that lie one after another in the file that the first argument names, or on standard input where
-// there is none: up to 64 KiB of them, as a longer day file is not listed either. The day file goes to standard output; a refusal's
-// number and place go to standard error.
+// there is none. The day file goes to standard output; a refusal's number and place go to standard error.
 use dayfile::answer::MakeAnswer;
 use libc::STDERR_FILENO;
 use libc::STDIN_FILENO;
 use libc::STDOUT_FILENO;
+ghost use mathlib.Core.Path.{_≡_};
+ghost use lib.ListN.{length};
+
+// One byte more than 1,024 of the longest bodies have. So bytes that are not read change no answer: a 1,025th body is refused before it
+// is looked at.
+const BODIES_ROOM: usize = 827_393;
+
+// The table of contents and as many bodies.
+const FILE_ROOM: usize = 835_588;
 
 // Says which rule the bodies break, and where.
 fn refuse(number: u32, place: usize) {
@@ -15,18 +23,27 @@ fn refuse(number: u32, place: usize) {
     io::write_all(STDERR_FILENO, b"\n");
 }
 
-// Makes the file of what can be read. One byte more than 64 KiB is read, so that more shows.
+// Room for the bodies, and for the file. Each `ensures` gives only the length, which lending the array as a slice needs.
+fn bodies_room() -> [u8; BODIES_ROOM]
+    ensures { λ r. ⌜ 827393 ≡ length r ⌝ }
+{
+    [0; BODIES_ROOM]
+}
+
+fn file_room() -> [u8; FILE_ROOM]
+    ensures { λ r. ⌜ 835588 ≡ length r ⌝ }
+{
+    [0; FILE_ROOM]
+}
+
+// Makes the file of what can be read.
 fn make_from(fd: i32) {
-    let mut bodies = [0u8; 65537];
+    let mut bodies = bodies_room();
     let n = io::read_full(fd, &mut bodies);
-    if 65536 < n {
-        io::write_all(STDERR_FILENO, b"too long\n");
-        return;
-    }
-    let mut file = [0u8; 73732];
+    let mut file = file_room();
     match dayfile::make(&bodies[..n], &mut file) {
         MakeAnswer::Made(k) => {
-            if k <= 73732 {
+            if k <= FILE_ROOM {
                 io::write_all(STDOUT_FILENO, &file[..k]);
             }
         }

@@ -1,9 +1,8 @@
 //! The kernels that are timed. Each goes round a loop until its budget stops it.
 
-use crate::assembly;
 use crate::capture::Capture;
-use crate::cases::code::words_of;
 use crate::run::Settings;
+use crate::text;
 
 /// The widths that are timed.
 pub const WIDTHS: [u32; 3] = [8, 16, 32];
@@ -142,11 +141,8 @@ impl Kernel {
     pub fn capture(&self, width: u32, budget: u32) -> Result<Capture, String> {
         let body = format!("{}\n", self.body).repeat(self.times);
         let half = width / 2;
-        let text = format!("MOV_IMM r4, {half}\n{BEFORE}\nLOOP\n{body}\nENDLOOP");
-        let mut code = Vec::new();
-        for line in text.lines().map(str::trim).filter(|line| !line.is_empty()) {
-            code.extend(words_of(&assembly::parse(line)?));
-        }
+        let lines = format!("MOV_IMM r4, {half}\n{BEFORE}\nLOOP\n{body}\nENDLOOP");
+        let code = text::code(&lines)?;
         Ok(Capture {
             kernel: 0,
             settings: Settings {

@@ -7,12 +7,14 @@ use std::time::{SystemTime, UNIX_EPOCH};
 
 use super::answer::answer;
 use super::reached::Reached;
-use super::{Case, agreement, format, make};
+use super::{Case, agreement, format, make, named};
 use crate::bytes;
 use crate::commands::{Done, read_file, say, write_file};
 
 /// How many cases are handed to another program at once.
 const BATCH: u64 = 1000;
+/// The seed and the count of the random cases of the stored batch.
+const STORED: (u64, u64) = (256, 450);
 
 /// The seed of a text: a number, or `new` for one from the clock. It is printed on standard error.
 fn seed(text: &str) -> Result<u64, String> {
@@ -34,14 +36,45 @@ fn count(text: &str) -> Result<u64, String> {
 
 /// Writes cases 1 to COUNT of a seed to standard output.
 pub fn cases(seed_text: &str, count_text: &str) -> Done {
-    let (seed, count) = (seed(seed_text)?, count(count_text)?);
-    let mut output = io::BufWriter::new(io::stdout().lock());
-    for number in 1..=count {
-        let written = output.write_all(&make::case(seed, number).write());
-        written.map_err(|error| format!("standard output: {error}"))?;
+    write_all(&random(seed(seed_text)?, count(count_text)?))
+}
+
+/// Writes the named cases to standard output.
+pub fn named() -> Done {
+    write_all(&named_cases())
+}
+
+/// Writes the stored batch to standard output: the named cases, then random ones of a fixed seed.
+pub fn stored() -> Done {
+    let (seed, count) = STORED;
+    write_all(&[named_cases(), random(seed, count)].concat())
+}
+
+/// Prints the numbers and names of the named cases.
+pub fn names() -> Done {
+    for (number, named) in (1..).zip(named::all()) {
+        say(&format!("{number} {}\n", named.name))?;
     }
-    output
-        .flush()
+    Ok(())
+}
+
+fn random(seed: u64, count: u64) -> Vec<Case> {
+    (1..=count).map(|number| make::case(seed, number)).collect()
+}
+
+fn named_cases() -> Vec<Case> {
+    named::all().iter().map(named::Named::case).collect()
+}
+
+/// Writes cases to standard output.
+fn write_all(cases: &[Case]) -> Done {
+    let mut output = io::BufWriter::new(io::stdout().lock());
+    let mut written = Ok(());
+    for case in cases {
+        written = written.and_then(|()| output.write_all(&case.write()));
+    }
+    written
+        .and_then(|()| output.flush())
         .map_err(|error| format!("standard output: {error}"))
 }
 

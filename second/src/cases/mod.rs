@@ -1,5 +1,5 @@
-//! Random cases for the page's functions: making them, answering them, and comparing the answers of
-//! another program with one's own.
+//! Cases for the page's functions, random ones and runs with a name: making them, answering them, and
+//! comparing the answers of another program with one's own.
 //!
 //! # Cases and answers as numbers
 //!
@@ -43,6 +43,7 @@ pub mod directed;
 pub mod files;
 pub mod format;
 pub mod make;
+pub mod named;
 pub mod random;
 pub mod reached;
 pub mod states;
