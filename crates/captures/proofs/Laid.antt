@@ -1,0 +1,101 @@
+-- A capture's file, laid down part by part: how long it is, and that the parts put one behind another are the file.
+use mathlib.Core.Path.{_≡_, refl, sym, ap, ap₂, _∙_}
+use Prim.Native.Nat.{ℕ, _+_, _*_, _≤_, _<_}
+use mathlib.Core.Bool.{Bool, true, false, _&&_, and-assoc}
+use mathlib.Core.List.{List, _++_}
+use native.Mathlib.Omega.{arith}
+use lib.Dec.{ltb}
+use lib.ListN.{length, length-append}
+use borrow.Author.Tests.{ltb-true, le-leb, lt-leb}
+use Rattle.ground.proofs.Bools.{and-left, and-right}
+use Rattle.numbers.specs.Numbers.{bound, bytesOfAll}
+use Rattle.numbers.specs.Placed.{placed}
+use Rattle.numbers.proofs.Numerals.{length-bytesOfAll, bytes-append}
+use Rattle.numbers.proofs.Placing.{placed-append}
+use Rattle.captures.specs.declared.answer.WriteAnswer.the-variants.{Wrote, Refused}
+use Rattle.captures.specs.Capture.{headerBytes, Capture, headerOf, wordsOf, captureOf, stateFits, fits}
+use Rattle.captures.specs.Write.{short, notOfLayout, wrote, writeOf}
+
+-- ---- which captures have a file
+
+pub record Fitting (c : Capture) : Type 0 where
+  pub code : length (c .code) < bound
+  pub registers : length (c .registers) < bound
+  pub device : length (c .device) < bound
+  pub local : length (c .local) < bound
+  pub state : length (c .state) < bound
+  pub shape : stateFits (c .state) ≡ true
+
+module _ (c : Capture) where
+  -- the tests as the code makes them
+  pub fits-so : (s : Bool) → s ≡ stateFits (c .state)
+      → (((((ltb (length (c .code)) bound && ltb (length (c .registers)) bound) && ltb (length (c .device)) bound) && ltb (length (c .local)) bound) && ltb (length (c .state)) bound) && s) ≡ fits c
+  unfolding fits
+  fits-so s e = rw e (simp and-assoc)
+
+  pub fits-known : fits c ≡ true → Fitting c
+  unfolding fits
+  fits-known e =
+      let a = and-right (ltb (length (c .code)) bound) _ e in
+      let b = and-right (ltb (length (c .registers)) bound) _ a in
+      let d = and-right (ltb (length (c .device)) bound) _ b in
+      let l = and-right (ltb (length (c .local)) bound) _ d in
+      record {
+        code = ltb-true _ _ (and-left _ _ e);
+        registers = ltb-true _ _ (and-left _ _ a);
+        device = ltb-true _ _ (and-left _ _ b);
+        local = ltb-true _ _ (and-left _ _ d);
+        state = ltb-true _ _ (and-left _ _ l);
+        shape = and-right (ltb (length (c .state)) bound) _ l;
+      }
+
+-- ---- the file's length
+
+pub length-capture : (c : Capture) → length (captureOf c) ≡ headerBytes + 4 * (length (c .code) + length (c .registers) + length (c .device) + length (c .local) + length (c .state))
+unfolding captureOf headerOf wordsOf
+length-capture c =
+    let b = length-bytesOfAll (headerOf c ++ wordsOf c) in
+    let w = length-append (c .code) (c .registers ++ (c .device ++ (c .local ++ c .state))) in
+    let x = length-append (c .registers) (c .device ++ (c .local ++ c .state)) in
+    let y = length-append (c .device) (c .local ++ c .state) in
+    let z = length-append (c .local) (c .state) in
+    omega arith
+
+-- ---- part by part
+
+put-append : (ms ns o : List ℕ) (p : ℕ) → placed o p (bytesOfAll (ms ++ ns)) ≡ placed (placed o p (bytesOfAll ms)) (p + 4 * length ms) (bytesOfAll ns)
+put-append ms ns o p = ap (placed o p) (bytes-append ms ns) ∙ placed-append (bytesOfAll ms) (bytesOfAll ns) o p ∙ ap (λ (k : ℕ). placed (placed o p (bytesOfAll ms)) (p + k) (bytesOfAll ns)) (length-bytesOfAll ms)
+
+-- numbers put behind numbers
+put-behind : (ms ns o o₁ o₂ : List ℕ) (p q : ℕ) → q ≡ p + 4 * length ms → o₁ ≡ placed o p (bytesOfAll ms) → o₂ ≡ placed o₁ q (bytesOfAll ns) → o₂ ≡ placed o p (bytesOfAll (ms ++ ns))
+put-behind ms ns o o₁ o₂ p q k a b = b ∙ ap₂ (λ (x : List ℕ) (y : ℕ). placed x y (bytesOfAll ns)) a k ∙ sym (put-append ms ns o p)
+
+module _ (c : Capture) (o o₁ o₂ o₃ o₄ o₅ o₆ : List ℕ) (registers device local state : ℕ)
+    (r : registers ≡ headerBytes + 4 * length (c .code)) (d : device ≡ registers + 4 * length (c .registers))
+    (l : local ≡ device + 4 * length (c .device)) (s : state ≡ local + 4 * length (c .local)) where
+  pub laid : o₁ ≡ placed o 0 (bytesOfAll (headerOf c)) → o₂ ≡ placed o₁ headerBytes (bytesOfAll (c .code)) → o₃ ≡ placed o₂ registers (bytesOfAll (c .registers))
+      → o₄ ≡ placed o₃ device (bytesOfAll (c .device)) → o₅ ≡ placed o₄ local (bytesOfAll (c .local)) → o₆ ≡ placed o₅ state (bytesOfAll (c .state))
+      → o₆ ≡ placed o 0 (captureOf c)
+  unfolding captureOf headerOf wordsOf
+  laid e1 e2 e3 e4 e5 e6 =
+      let h5 = put-behind (c .local) (c .state) o₄ o₅ o₆ local state s e5 e6 in
+      let h4 = put-behind (c .device) _ o₃ o₄ o₆ device local l e4 h5 in
+      let h3 = put-behind (c .registers) _ o₂ o₃ o₆ registers device d e3 h4 in
+      let h2 = put-behind (c .code) _ o₁ o₂ o₆ headerBytes registers r e2 h3 in
+      put-behind (headerOf c) _ o o₁ o₆ 0 headerBytes refl e1 h2
+
+-- ---- the answer
+
+module _ (c : Capture) (o : List ℕ) where
+  pub write-not : fits c ≡ false → wrote (Refused notOfLayout 0) o ≡ writeOf c o
+  unfolding writeOf
+  write-not e = rw e
+
+  pub write-short : fits c ≡ true → length o < headerBytes + 4 * (length (c .code) + length (c .registers) + length (c .device) + length (c .local) + length (c .state))
+      → wrote (Refused short 0) o ≡ writeOf c o
+  unfolding writeOf
+  write-short e h = let l = length-capture c in rw (e, lt-leb (length (captureOf c)) (length o) (omega arith))
+
+  pub write-so : (n : ℕ) (x : List ℕ) → fits c ≡ true → n ≡ length (captureOf c) → n ≤ length o → x ≡ placed o 0 (captureOf c) → wrote (Wrote n) x ≡ writeOf c o
+  unfolding writeOf
+  write-so n x e q h p = rw (e, le-leb (length (captureOf c)) (length o) (omega arith), p, q)

@@ -1,0 +1,7 @@
+pub mod Words
+pub mod Tested
+pub mod Laid
+pub mod Accepted
+pub mod Files
+pub mod Theorems
+pub mod OneAnswer

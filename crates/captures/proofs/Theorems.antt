@@ -1,0 +1,123 @@
+-- What the promises of `write` and `read` come to, said of captures.
+use mathlib.Core.Path.{_≡_, refl, sym, ap, _∙_}
+use Prim.Native.Nat.{ℕ, _≤_}
+use mathlib.Core.List.{List}
+use mathlib.Core.Bool.{true, false}
+use mathlib.Core.Logic.{⊎-elim}
+use native.Mathlib.Omega.{arith}
+use lib.Dec.{leb}
+use lib.ListN.{length, take, drop}
+use lib.Seq.{take-at}
+use borrow.Author.Tests.{leb-true}
+use Rattle.ground.proofs.Tests.{true-or-false}
+use Rattle.numbers.specs.Numbers.{Bytes, Small}
+use Rattle.numbers.proofs.Placing.{placed-front}
+use Rattle.captures.specs.declared.answer.Head.{Head}
+use Rattle.captures.specs.declared.answer.Counts.{Counts}
+use Rattle.captures.specs.declared.answer.Rule.{Rule}
+use Rattle.captures.specs.declared.answer.ReadAnswer.the-variants.{Read, Unreadable}
+use Rattle.captures.specs.declared.answer.WriteAnswer.the-variants.{Wrote, Refused}
+use Rattle.captures.specs.declared.testing.Verdict.{Verdict}
+use Rattle.captures.specs.declared.testing.Verdict.the-variants.{Fine, Broken}
+use Rattle.captures.specs.Capture.{Capture, headOf, wordsOf, captureOf, fits, Filed}
+use Rattle.captures.specs.Write.{short, notOfLayout, Writing, writeOf}
+use Rattle.captures.specs.Read.{captureIn, verdictOf, Lent, roomsOf, countsOf, Within, filled, reading, judged, readOf}
+use Rattle.captures.proofs.Laid.{write-so}
+use Rattle.captures.proofs.Accepted.{accepted, is-accepted, read-fine}
+use Rattle.captures.proofs.Files.{head-back, counts-back, capture-back, file-accepted, file-back, file-filed, counts-in, filed-fits, fits-filed}
+
+-- THEOREM: the file of a capture is read as that capture, wherever there is room for it ...
+pub read-back : (c : Capture) → Filed c → (l : Lent) → Within (countsOf c) (roomsOf l) → readOf (captureOf c) l ≡ reading (Read (c .head) (countsOf c)) (filled c l)
+read-back c g l w =
+    let v = is-accepted (captureOf c) (roomsOf l) (file-accepted c g (roomsOf l) w) in
+    sym (read-fine (captureOf c) l Fine (sym v) (c .head) (countsOf c) (filled c l) refl (ap (λ (d : Capture). filled d l) (sym (capture-back c g))) (sym (head-back c g)) (sym (counts-back c g)))
+
+-- the front of a buffer that a file was written to
+written-front : (c : Capture) (o : List ℕ) → fits c ≡ true → length (captureOf c) ≤ length o → take (length (captureOf c)) (writeOf c o .file) ≡ captureOf c
+written-front c o e h =
+    ap (λ (x : Writing). take (length (captureOf c)) (x .file)) (sym (write-so c o _ _ e refl h refl))
+    ∙ ap (take (length (captureOf c))) (placed-front o (captureOf c) h)
+    ∙ take-at (captureOf c) (drop (length (captureOf c)) o) _ refl
+
+-- ... and that file is what stands in a buffer that it was written to
+pub write-read : (c : Capture) → Filed c → (o : List ℕ) → length (captureOf c) ≤ length o → (l : Lent) → Within (countsOf c) (roomsOf l)
+    → (writeOf c o .answer ≡ Wrote (length (captureOf c))) × (readOf (take (length (captureOf c)) (writeOf c o .file)) l ≡ reading (Read (c .head) (countsOf c)) (filled c l))
+write-read c g o h l w =
+    let e = filed-fits c g in
+    (ap (λ (x : Writing). x .answer) (sym (write-so c o _ _ e refl h refl)), ap (λ (f : List ℕ). readOf f l) (written-front c o e h) ∙ read-back c g l w)
+
+-- THEOREM: no two captures have the same file
+pub one-capture : (c d : Capture) → Filed c → Filed d → captureOf c ≡ captureOf d → c ≡ d
+one-capture c d g h e = sym (capture-back c g) ∙ ap captureIn e ∙ capture-back d h
+
+-- ---- accepted files
+
+-- f is the file of a capture that there is room for
+pub record Given (f : List ℕ) (rooms : Counts) : Type 0 where
+  pub capture : Capture
+  pub filed : Filed capture
+  pub within : Within (countsOf capture) rooms
+  pub file : captureOf capture ≡ f
+
+-- THEOREM: the files that break no rule are those of captures that there is room for ...
+pub accepted-given : (f : List ℕ) (rooms : Counts) → Bytes f → verdictOf f rooms ≡ Fine → Given f rooms
+accepted-given f rooms by e =
+    let a = accepted f rooms e in
+    record { capture = captureIn f; filed = file-filed f by rooms a; within = rw (counts-in f by rooms a) (a .within); file = file-back f by rooms a }
+
+pub given-accepted : (f : List ℕ) (rooms : Counts) → Given f rooms → verdictOf f rooms ≡ Fine
+given-accepted f rooms g = ap (λ (x : List ℕ). verdictOf x rooms) (sym (g .file)) ∙ is-accepted (captureOf (g .capture)) rooms (file-accepted (g .capture) (g .filed) rooms (g .within))
+
+-- ... each of one capture ...
+pub given-once : (f : List ℕ) (rooms : Counts) (g h : Given f rooms) → g .capture ≡ h .capture
+given-once f rooms g h = one-capture (g .capture) (h .capture) (g .filed) (h .filed) (g .file ∙ sym (h .file))
+
+-- ... and reading answers that capture
+read-tells : (v : Verdict) (f : List ℕ) (l : Lent) (h : Head) (n : Counts) → judged v f l .answer ≡ Read h n → v ≡ Fine
+unfolding judged
+read-tells Fine f l h n e = refl
+read-tells (Broken r p) f l h n e = absurd (let z : _≡_ {A = ℕ} 0 1 = cc in omega arith)
+
+pub read-given : (f : List ℕ) (l : Lent) (h : Head) (n : Counts) → Bytes f → readOf f l .answer ≡ Read h n → Given f (roomsOf l)
+unfolding readOf
+read-given f l h n by e = accepted-given f (roomsOf l) by (read-tells (verdictOf f (roomsOf l)) f l h n e)
+
+pub given-read : (f : List ℕ) (l : Lent) (g : Given f (roomsOf l)) → readOf f l ≡ reading (Read (g .capture .head) (countsOf (g .capture))) (filled (g .capture) l)
+given-read f l g = ap (λ (x : List ℕ). readOf x l) (sym (g .file)) ∙ read-back (g .capture) (g .filed) l (g .within)
+
+-- ---- written files
+
+write-tells : (c : Capture) (o : List ℕ) (n : ℕ) → writeOf c o .answer ≡ Wrote n → (fits c ≡ true) × (length (captureOf c) ≤ length o) × (length (captureOf c) ≡ n)
+unfolding writeOf
+write-tells c o n e =
+    ⊎-elim
+    (λ (h : fits c ≡ true).
+    ⊎-elim
+    (λ (k : leb (length (captureOf c)) (length o) ≡ true). let y : Wrote (length (captureOf c)) ≡ Wrote n = simp (h, k) at e in (h, leb-true _ _ k, cc))
+    (λ (k : leb (length (captureOf c)) (length o) ≡ false). let y : Refused short 0 ≡ Wrote n = simp (h, k) at e in absurd (let z : _≡_ {A = ℕ} 0 1 = cc in omega arith))
+    (true-or-false (leb (length (captureOf c)) (length o))))
+    (λ (h : fits c ≡ false). let y : Refused notOfLayout 0 ≡ Wrote n = simp h at e in absurd (let z : _≡_ {A = ℕ} 0 1 = cc in omega arith))
+    (true-or-false (fits c))
+
+-- THEOREM: what was written is the file of a capture, for numbers of four bytes
+pub written-given : (c : Capture) (o : List ℕ) (n : ℕ) → Small (headOf c) → Small (wordsOf c) → writeOf c o .answer ≡ Wrote n → Given (take n (writeOf c o .file)) (countsOf c)
+written-given c o n h w e =
+    let t = write-tells c o n e in
+    record {
+      capture = c;
+      filed = fits-filed c (t .0) h w;
+      within = record { code = omega arith; registers = omega arith; device = omega arith; local = omega arith; state = omega arith };
+      file = sym (ap (λ (k : ℕ). take k (writeOf c o .file)) (sym (t .2)) ∙ written-front c o (t .0) (t .1));
+    }
+
+-- ---- refusals
+
+-- a file that is refused changes nothing
+refusal-keeps : (v : Verdict) (f : List ℕ) (l : Lent) (r : Rule) (p : ℕ) → judged v f l .answer ≡ Unreadable r p → judged v f l .after ≡ l
+unfolding judged
+refusal-keeps Fine f l r p e = absurd (let z : _≡_ {A = ℕ} 0 1 = cc in omega arith)
+refusal-keeps (Broken s q) f l r p e = refl
+
+pub refused-keeps : (f : List ℕ) (l : Lent) (r : Rule) (p : ℕ) → readOf f l .answer ≡ Unreadable r p → readOf f l .after ≡ l
+unfolding readOf
+refused-keeps f l r p e = refusal-keeps (verdictOf f (roomsOf l)) f l r p e

@@ -1,0 +1,34 @@
+-- The tests one after another.
+use Rattle.captures.proofs.Tested.{rooms-tested}
+use borrow.Author.Needs.{needs}
+use Rattle.captures.proofs.testing.test_rooms.Statement.{statement}
+use Rattle.captures.proofs.testing.test_rooms.Tie as tie
+
+next-requires : tie.Need-next-requires
+next-requires c κs = search needs
+
+next-requires-2 : tie.Need-next-requires-2
+next-requires-2 c κs = search needs
+
+next-requires-3 : tie.Need-next-requires-3
+next-requires-3 c κs = search needs
+
+next-requires-4 : tie.Need-next-requires-4
+next-requires-4 c κs = search needs
+
+next-requires-5 : tie.Need-next-requires-5
+next-requires-5 c κs = search needs
+
+returns : tie.Need-returns
+returns c = rooms-tested _ _ _ _ _ _ _ _ (c .before .before .before .before .before .before .before .before .before .before .before .before .next .ensures) (c .before .before .before .before .before .before .before .before .before .next2 .ensures) (c .before .before .before .before .before .before .next3 .ensures) (c .before .before .before .next4 .ensures) (c .next5 .ensures)
+
+pub test-rooms-spec : {M : Type 1} → statement M
+test-rooms-spec =
+    tie.close
+    (tie.spec
+    next-requires
+    next-requires-2
+    next-requires-3
+    next-requires-4
+    next-requires-5
+    returns)

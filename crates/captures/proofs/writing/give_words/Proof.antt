@@ -1,0 +1,77 @@
+-- The invariant: the words that are left, put where the loop stands, give the whole result.
+use mathlib.Core.Path.{_≡_, refl, sym, _∙_}
+use Prim.Native.Nat.{_-_, _≤_}
+use native.Mathlib.Omega.{arith}
+use lib.ListN.{length, drop}
+use Rattle.numbers.specs.Numbers.{bytesOfAll}
+use Rattle.numbers.specs.Placed.{placed}
+use Rattle.numbers.proofs.Placing.{placed-out}
+use Rattle.captures.proofs.Words.{put-on, put-done}
+use borrow.Author.Needs.{needs}
+use Rattle.captures.proofs.writing.give_words.Statement.{statement}
+use Rattle.captures.proofs.writing.give_words.Tie as tie
+
+abbrev Inv-loop : tie.InvT-loop
+Inv-loop words at file₀ k₀ p₀ file k p =
+    (k ≤ length words) × (length file ≡ length file₀) × (placed file p (bytesOfAll (drop k words)) ≡ placed file₀ at (bytesOfAll words))
+
+abbrev μ-loop : tie.MeasureT-loop
+μ-loop words at file₀ k₀ p₀ file k p = length words - k
+
+loop-holds : tie.Need-loop-holds Inv-loop μ-loop
+loop-holds c = (omega arith, refl, refl)
+
+same-length : tie.Need-same-length Inv-loop μ-loop
+same-length c = c .before .before .loop .inv .1
+
+returns : tie.Need-returns Inv-loop μ-loop
+returns c = sym (placed-out _ _ _ (c .if1 .taken)) ∙ c .before .before .loop .inv .2
+
+mul-put : tie.Need-mul-put Inv-loop μ-loop
+mul-put c = search needs
+
+shared-slice-read-put : tie.Need-shared-slice-read-put Inv-loop μ-loop
+shared-slice-read-put c = search needs
+
+put-requires : tie.Need-put-requires Inv-loop μ-loop
+put-requires c κs = search needs
+
+add-p : tie.Need-add-p Inv-loop μ-loop
+add-p c = search needs
+
+add-k : tie.Need-add-k Inv-loop μ-loop
+add-k c = omega (arith, c .before .before .before .before .before .before .loop-test .taken)
+
+loop-less : tie.Need-loop-less Inv-loop μ-loop
+loop-less c = omega (arith, c .before .before .before .before .before .before .loop-test .taken)
+
+loop-again : tie.Need-loop-again Inv-loop μ-loop
+loop-again c =
+    let l = c .before .before .before .before .before .before .before .loop in
+    let t = c .before .before .before .before .before .before .loop-test .taken in
+    (omega (arith, t), c .before .before .put .kept .0 ∙ l .inv .1, put-on _ _ _ _ _ t (c .before .before .put .ensures) ∙ l .inv .2)
+
+same-length-2 : tie.Need-same-length-2 Inv-loop μ-loop
+same-length-2 c = c .before .loop .inv .1
+
+returns-2 : tie.Need-returns-2 Inv-loop μ-loop
+returns-2 c = put-done _ _ _ _ (c .loop-test .left) ∙ c .before .loop .inv .2
+
+pub give-words-spec : {M : Type 1} → statement M
+give-words-spec =
+    tie.close
+    (tie.spec
+    Inv-loop
+    μ-loop
+    loop-holds
+    same-length
+    returns
+    mul-put
+    shared-slice-read-put
+    put-requires
+    add-p
+    add-k
+    loop-less
+    loop-again
+    same-length-2
+    returns-2)

@@ -1,0 +1,65 @@
+-- By whether a file has these parts, and whether it fits the buffer.
+use mathlib.Core.Path.{sym, _∙_}
+use native.Mathlib.Omega.{arith}
+use borrow.Author.Tests.{not-true, not-false}
+use Rattle.captures.specs.Capture.{captured}
+use Rattle.captures.proofs.Laid.{Fitting, fits-so, fits-known, length-capture, write-not, write-short, write-so}
+use borrow.Author.Needs.{needs}
+use Rattle.captures.proofs.writing.write.Statement.{statement}
+use Rattle.captures.proofs.writing.write.Tie as tie
+
+state-fits-requires : tie.Need-state-fits-requires
+state-fits-requires c κs = search needs
+
+returns : tie.Need-returns
+returns c = write-not _ _ (sym (fits-so _ _ (c .before .state-fits .ensures)) ∙ not-true _ (c .if1 .taken))
+
+add-words : tie.Need-add-words
+add-words c = search needs
+
+add-words-2 : tie.Need-add-words-2
+add-words-2 c = search needs
+
+add-words-3 : tie.Need-add-words-3
+add-words-3 c = search needs
+
+add-words-4 : tie.Need-add-words-4
+add-words-4 c = search needs
+
+fitting : (c : tie.Else1) → Fitting (captured (c .before .before .before .before .before .before .before .before .args .head) (c .before .before .before .before .before .before .before .before .args .code .now) (c .before .before .before .before .before .before .before .before .args .registers .now) (c .before .before .before .before .before .before .before .before .args .device .now) (c .before .before .before .before .before .before .before .before .args .local .now) (c .before .before .before .before .before .before .before .before .args .state .now))
+fitting c = fits-known _ (sym (fits-so _ _ (c .before .state-fits .ensures)) ∙ not-false _ (c .if1 .left))
+
+mul-total : tie.Need-mul-total
+mul-total c = let k = fitting c in omega (arith, k .code, k .registers, k .device, k .local, k .state)
+
+add-total : tie.Need-add-total
+add-total c = let k = fitting c in omega (arith, k .code, k .registers, k .device, k .local, k .state)
+
+returns-2 : tie.Need-returns-2
+returns-2 c = write-short _ _ (sym (fits-so _ _ (c .before .before .state-fits .ensures)) ∙ not-false _ (c .before .if1 .left)) (c .if2 .taken)
+
+give-parts-requires : tie.Need-give-parts-requires
+give-parts-requires c κs = (sym (fits-so _ _ (c .before .before .before .state-fits .ensures)) ∙ not-false _ (c .before .before .if1 .left))
+
+same-length : tie.Need-same-length
+same-length c = search needs
+
+returns-3 : tie.Need-returns-3
+returns-3 c = write-so _ _ _ _ (sym (fits-so _ _ (c .before .before .before .before .before .before .state-fits .ensures)) ∙ not-false _ (c .before .before .before .before .before .if1 .left)) (sym (length-capture _)) (c .before .before .before .before .if2 .left) (c .before .before .give-parts .ensures)
+
+pub write-spec : {M : Type 1} → statement M
+write-spec =
+    tie.close
+    (tie.spec
+    state-fits-requires
+    returns
+    add-words
+    add-words-2
+    add-words-3
+    add-words-4
+    mul-total
+    add-total
+    returns-2
+    give-parts-requires
+    same-length
+    returns-3)

@@ -1,0 +1,161 @@
+-- Reading a capture file into lent buffers: the tests in their order, and what the file holds.
+use Prim.Native.Nat.{ℕ, zero, suc, _+_, _*_, _-_, _/_, _≤_, min}
+use mathlib.Core.Bool.{Bool, cond, _||_}
+use mathlib.Core.List.{List, [], _∷_}
+use lib.Dec.{ltb, leb, eqb}
+use lib.ListN.{length}
+use Rattle.numbers.specs.Numbers.{numberAt}
+use Rattle.numbers.specs.Placed.{placed}
+use Rattle.captures.specs.declared.answer.Head.{Head}
+use Rattle.captures.specs.declared.answer.Counts.{Counts}
+use Rattle.captures.specs.declared.answer.Rule.{Rule}
+use Rattle.captures.specs.declared.answer.ReadAnswer.{ReadAnswer}
+use Rattle.captures.specs.declared.answer.ReadAnswer.the-variants.{Read, Unreadable}
+use Rattle.captures.specs.declared.testing.Verdict.{Verdict}
+use Rattle.captures.specs.declared.testing.Verdict.the-variants.{Fine, Broken}
+use Rattle.captures.specs.declared.testing.Places.{Places}
+use Rattle.captures.specs.Capture.{mark, edition, headerBytes, codeCount, registersCount, deviceCount, localCount, stateCount, sixthCount, depthWord, stateWords, Capture}
+
+-- ---- what a file holds
+
+-- kernel number and settings
+unfoldable pub headAt : List ℕ → Head
+headAt f = record { kernel = numberAt f 8; width = numberAt f 12; registers = numberAt f 16; lanes = numberAt f 20; budget = numberAt f 24 }
+
+-- the counts of words
+unfoldable pub countsAt : List ℕ → Counts
+countsAt f = record { code = numberAt f codeCount; registers = numberAt f registersCount; device = numberAt f deviceCount; local = numberAt f localCount; state = numberAt f stateCount }
+
+-- where the words of the parts behind the code stand, where the state's depth does, and where the file ends
+unfoldable pub placesOf : Counts → Places
+placesOf n =
+    let registers = headerBytes + 4 * n .code in
+    let device = registers + 4 * n .registers in
+    let local = device + 4 * n .device in
+    let state = local + 4 * n .local in
+    record { registers = registers; device = device; local = local; state = state; depth = state + 4 * depthWord; end = state + 4 * n .state }
+
+-- n numbers, the first at p
+unfoldable pub numbersAt : List ℕ → ℕ → ℕ → List ℕ
+numbersAt f p zero = []
+numbersAt f p (suc n) = numberAt f p ∷ numbersAt f (p + 4) n
+
+-- the capture that a file is of
+unfoldable pub captureIn : List ℕ → Capture
+captureIn f =
+    let n = countsAt f in
+    let at = placesOf n in
+    record {
+      head = headAt f;
+      code = numbersAt f headerBytes (n .code);
+      registers = numbersAt f (at .registers) (n .registers);
+      device = numbersAt f (at .device) (n .device);
+      local = numbersAt f (at .local) (n .local);
+      state = numbersAt f (at .state) (n .state);
+    }
+
+-- ---- the tests
+
+-- the first broken rule, after this one is tested
+unfoldable pub next : Verdict → Bool → Rule → ℕ → Verdict
+next Fine holds rule place = cond holds Fine (Broken rule place)
+next (Broken r p) holds rule place = Broken r p
+
+-- mark and edition, as soon as they are there, then the thirteen numbers
+unfoldable pub testHead : List ℕ → Verdict
+testHead f =
+    let a = next Fine (ltb (length f) 4 || eqb (numberAt f 0) mark) Rule.Mark 0 in
+    let b = next a (ltb (length f) 8 || eqb (numberAt f 4) edition) Rule.Edition 4 in
+    next b (leb headerBytes (length f)) Rule.Header (4 * (length f / 4))
+
+-- there is room for each count
+unfoldable pub testRooms : Verdict → Counts → Counts → Verdict
+testRooms v n rooms =
+    let a = next v (leb (n .code) (rooms .code)) Rule.Room codeCount in
+    let b = next a (leb (n .registers) (rooms .registers)) Rule.Room registersCount in
+    let c = next b (leb (n .device) (rooms .device)) Rule.Room deviceCount in
+    let d = next c (leb (n .local) (rooms .local)) Rule.Room localCount in
+    next d (leb (n .state) (rooms .state)) Rule.Room stateCount
+
+-- the depth that a state's count gives
+unfoldable pub depthOf : ℕ → ℕ
+depthOf n = (n - 7) / 6
+
+-- the state's count is 0 or a state's, the sixth is 0, the file ends behind the words, and the state's depth is its count's
+unfoldable pub testState : Verdict → List ℕ → Verdict
+testState v f =
+    let n = countsAt f .state in
+    let at = placesOf (countsAt f) in
+    let a = next v (eqb n 0 || eqb n (stateWords (depthOf n))) Rule.StateCount stateCount in
+    let b = next a (eqb (numberAt f sixthCount) 0) Rule.SixthCount sixthCount in
+    let c = next b (eqb (length f) (at .end)) Rule.Length (min (length f) (at .end)) in
+    next c (eqb n 0 || eqb (numberAt f (at .depth)) (depthOf n)) Rule.Depth (at .depth)
+
+-- all tests, in this order: the head's, the rooms', the state's
+unfoldable pub verdictOf : List ℕ → Counts → Verdict
+verdictOf f rooms = testState (testRooms (testHead f) (countsAt f) rooms) f
+
+-- ---- the answer
+
+-- the lent buffers
+pub record Lent : Type 0 where
+  pub code : List ℕ
+  pub registers : List ℕ
+  pub device : List ℕ
+  pub local : List ℕ
+  pub state : List ℕ
+
+abbrev pub lent : List ℕ → List ℕ → List ℕ → List ℕ → List ℕ → Lent
+lent code registers device local state = record { code = code; registers = registers; device = device; local = local; state = state }
+
+-- the room that there is in each buffer
+unfoldable pub roomsOf : Lent → Counts
+roomsOf l =
+    record {
+      code = length (l .code);
+      registers = length (l .registers);
+      device = length (l .device);
+      local = length (l .local);
+      state = length (l .state);
+    }
+
+-- how many words a capture has of each part
+unfoldable pub countsOf : Capture → Counts
+countsOf c =
+    record {
+      code = length (c .code);
+      registers = length (c .registers);
+      device = length (c .device);
+      local = length (c .local);
+      state = length (c .state);
+    }
+
+-- there is room for each count
+pub record Within (n rooms : Counts) : Type 0 where
+  pub code : n .code ≤ rooms .code
+  pub registers : n .registers ≤ rooms .registers
+  pub device : n .device ≤ rooms .device
+  pub local : n .local ≤ rooms .local
+  pub state : n .state ≤ rooms .state
+
+-- the words of a capture at the start of each buffer, the rest of each as it was
+unfoldable pub filled : Capture → Lent → Lent
+filled c l =
+    lent (placed (l .code) 0 (c .code)) (placed (l .registers) 0 (c .registers)) (placed (l .device) 0 (c .device)) (placed (l .local) 0 (c .local)) (placed (l .state) 0 (c .state))
+
+-- an answer, and what the lent buffers hold after
+pub record Reading : Type 0 where
+  pub answer : ReadAnswer
+  pub after : Lent
+
+abbrev pub reading : ReadAnswer → Lent → Reading
+reading r l = record { answer = r; after = l }
+
+-- by the verdict: what the file holds, or the broken rule, which changes nothing
+unfoldable pub judged : Verdict → List ℕ → Lent → Reading
+judged Fine f l = reading (Read (headAt f) (countsAt f)) (filled (captureIn f) l)
+judged (Broken rule place) f l = reading (Unreadable rule place) l
+
+-- what reading answers and leaves
+unfoldable pub readOf : List ℕ → Lent → Reading
+readOf f l = judged (verdictOf f (roomsOf l)) f l
