@@ -34,20 +34,24 @@ fn save_as(i: usize, bytes: &[u8]) {
     }
 }
 
-// The key of a fault: its line, and its file.
-fn keep_key(body: &[u8]) {
-    say_key(body);
+// Tells of a fault: its body goes to its file, then the report to standard output.
+fn tell_fault(answer: Replayed, body: &[u8]) {
     save_as(KEY, body);
+    say_report(answer);
+    say_key(body);
 }
 
-// The key of what a replay answered, where it has one.
-fn tell_key(kernel: u32, answer: Replayed) {
+// Tells of what a replay answered; only a fault has a key.
+fn tell(kernel: u32, answer: Replayed) {
     let mut body = [0u8; BODY_ROOM];
     let written = write_key(kernel, answer, &mut body);
-    if let KeyAnswer::Wrote(n) = written {
-        if n <= BODY_ROOM {
-            keep_key(&body[..n]);
+    match written {
+        KeyAnswer::Wrote(n) => {
+            if n <= BODY_ROOM {
+                tell_fault(answer, &body[..n]);
+            }
         }
+        KeyAnswer::Refused(number, place) => say_report(answer),
     }
 }
 
@@ -79,7 +83,7 @@ fn keep_words(
     }
 }
 
-// Writes the end state as a capture, with the same settings and code.
+// Writes the end state as a capture, with the same settings and code. A refused run writes none.
 fn keep_state(
     head: Head,
     answer: Replayed,
@@ -89,13 +93,17 @@ fn keep_state(
     local: &[u32],
     file: &mut [u8],
 ) {
+    let outcome = answer.outcome;
+    if is_refused(outcome) {
+        return;
+    }
     let state = answer.state;
     let words = words_of(state);
     let n = word_count(state.hot.depth);
     keep_words(head, code, regs, device, local, &words[..n], file);
 }
 
-// Replays a capture's words: the report, and what is kept of it.
+// Replays a capture's words: what is kept of it, then the report, so that a reader who stops reading loses no file.
 fn replay_words(
     head: Head,
     code: &[u32],
@@ -121,12 +129,8 @@ fn replay_words(
         device,
         local,
     );
-    say_report(answer);
-    tell_key(head.kernel, answer);
-    let outcome = answer.outcome;
-    if !is_refused(outcome) {
-        keep_state(head, answer, code, regs, device, local, file);
-    }
+    keep_state(head, answer, code, regs, device, local, file);
+    tell(head.kernel, answer);
 }
 
 // The smaller of two counts.

@@ -8,6 +8,12 @@ use borrow.Author.Needs.{needs}
 use Rattle.replay_capture.proofs.replaying.keep_state.Statement.{statement}
 use Rattle.replay_capture.proofs.replaying.keep_state.Tie as tie
 
+is-refused-requires : tie.Need-is-refused-requires
+is-refused-requires c κs = search needs
+
+returns : tie.Need-returns
+returns c = search needs
+
 words-of-requires : tie.Need-words-of-requires
 words-of-requires c κs = search needs
 
@@ -28,17 +34,19 @@ keep-words-requires c κs = search needs
 same-length : tie.Need-same-length
 same-length c = search needs
 
-returns : tie.Need-returns
-returns c = search needs
+returns-2 : tie.Need-returns-2
+returns-2 c = search needs
 
 pub keep-state-spec : {M : Type 1} → statement M
 keep-state-spec =
     tie.close
     (tie.spec
+    is-refused-requires
+    returns
     words-of-requires
     word-count-requires
     array-share-prefix-words
     slice-aggregate-keep-words
     keep-words-requires
     same-length
-    returns)
+    returns-2)

@@ -4,8 +4,8 @@ use native.Mathlib.Omega.{arith}
 use lib.ListN.{length}
 use lib.Seq.{length-take-le}
 use borrow.Author.Needs.{needs}
-use Rattle.replay_capture.proofs.replaying.tell_key.Statement.{statement}
-use Rattle.replay_capture.proofs.replaying.tell_key.Tie as tie
+use Rattle.replay_capture.proofs.replaying.tell.Statement.{statement}
+use Rattle.replay_capture.proofs.replaying.tell.Tie as tie
 
 slice-aggregate-write-key : tie.Need-slice-aggregate-write-key
 slice-aggregate-write-key c = search needs
@@ -19,17 +19,20 @@ enum-known-written c = search needs
 array-share-prefix-body : tie.Need-array-share-prefix-body
 array-share-prefix-body c = search needs
 
-slice-aggregate-keep-key : tie.Need-slice-aggregate-keep-key
-slice-aggregate-keep-key c =
+slice-aggregate-tell-fault : tie.Need-slice-aggregate-tell-fault
+slice-aggregate-tell-fault c =
     let t = c .before .before .before .before .before .before .write-key .last .1 .1 .0 in
     let l : length t ≡ 808 = c .before .before .before .before .before .before .write-key .kept .1 .1 .0 in
     sym (length-take-le _ t (omega arith))
 
-keep-key-requires : tie.Need-keep-key-requires
-keep-key-requires c κs = search needs
+tell-fault-requires : tie.Need-tell-fault-requires
+tell-fault-requires c κs = search needs
 
-enum-told : tie.Need-enum-told
-enum-told c = search needs
+enum-known-written-2 : tie.Need-enum-known-written-2
+enum-known-written-2 c = search needs
+
+say-report-requires : tie.Need-say-report-requires
+say-report-requires c κs = search needs
 
 returns : tie.Need-returns
 returns c = search needs
@@ -40,17 +43,18 @@ returns-2 c = search needs
 returns-3 : tie.Need-returns-3
 returns-3 c = search needs
 
-pub tell-key-spec : {M : Type 1} → statement M
-tell-key-spec =
+pub tell-spec : {M : Type 1} → statement M
+tell-spec =
     tie.close
     (tie.spec
     slice-aggregate-write-key
     write-key-requires
     enum-known-written
     array-share-prefix-body
-    slice-aggregate-keep-key
-    keep-key-requires
-    enum-told
+    slice-aggregate-tell-fault
+    tell-fault-requires
+    enum-known-written-2
+    say-report-requires
     returns
     returns-2
     returns-3)
