@@ -2,3 +2,4 @@ pub mod Bits
 pub mod Members
 pub mod Masks
 pub mod Picking
+pub mod OneAnswer

@@ -1,7 +1,10 @@
 -- Any two answers, with the later contents of what was lent, that the promise of a way into the replay allows are equal.
 use mathlib.Core.Path.{_≡_, sym, ap, _∙_}
+use mathlib.Core.Bool.{Bool}
 use mathlib.Core.List.{List}
 use Prim.Native.Nat.{ℕ}
+use Rattle.compute.specs.declared.Faults.{Faults}
+use Rattle.compute.specs.Faulting.{clear}
 use Rattle.replay.specs.declared.answers.Replayed.{Replayed}
 use Rattle.replay.specs.Replay.{Answered, answered}
 
@@ -16,3 +19,6 @@ pub one-answer :
 one-answer x r q regs regs′ device device′ local local′ e f =
     let same = e ∙ sym f in
     (ap back same, ap (λ (a : Answered). a .regs) same, ap (λ (a : Answered). a .memories .device) same, ap (λ (a : Answered). a .memories .local) same)
+
+pub is-clear-once : (f : Faults) (r q : Bool) → r ≡ clear f → q ≡ clear f → r ≡ q
+is-clear-once f r q e g = e ∙ sym g

@@ -1,0 +1,25 @@
+-- Each promise of the crate allows one answer.
+use mathlib.Core.Path.{_≡_, sym, _∙_}
+use mathlib.Core.Bool.{Bool, _&&_}
+use Prim.Native.Nat.{ℕ, min}
+use lib.Bits.{bitAnd, bitOr}
+use lib.Dec.{ltb}
+use Rattle.lanes.specs.Sets.{widest, has, without, first, only}
+
+pub has-once : (set lane : ℕ) (r q : Bool) → r ≡ has set lane → q ≡ has set lane → r ≡ q
+has-once set lane r q a b = a ∙ sym b
+
+pub union-once : (m n r q : ℕ) → r ≡ bitOr m n → q ≡ bitOr m n → r ≡ q
+union-once m n r q a b = a ∙ sym b
+
+pub meet-once : (m n r q : ℕ) → r ≡ bitAnd m n → q ≡ bitAnd m n → r ≡ q
+meet-once m n r q a b = a ∙ sym b
+
+pub without-once : (m n r q : ℕ) → r ≡ without m n → q ≡ without m n → r ≡ q
+without-once m n r q a b = a ∙ sym b
+
+pub first-once : (n r q : ℕ) → r ≡ first (min n widest) → q ≡ first (min n widest) → r ≡ q
+first-once n r q a b = a ∙ sym b
+
+pub only-once : (lane : ℕ) (picked : Bool) (r q : ℕ) → r ≡ only lane (picked && ltb lane widest) → q ≡ only lane (picked && ltb lane widest) → r ≡ q
+only-once lane picked r q a b = a ∙ sym b
