@@ -12,6 +12,7 @@ use Rattle.numbers.specs.Numbers.{bytesOf, bytesOfAll, bound, Small}
 use Rattle.numbers.specs.Placed.{placed}
 use Rattle.numbers.proofs.Numerals.{small-cons, small-append}
 use Rattle.numbers.proofs.Placing.{placed-front}
+use Rattle.numbers.proofs.Behind.{behind, behind-one}
 use Rattle.key.specs.declared.BodyAnswer.the-variants.{Length}
 use Rattle.key.specs.declared.BodyAnswer.the-variants.{Refused as NoBody}
 use Rattle.key.specs.Body.{Parts, numbersOf, bytesOfBody}
@@ -26,7 +27,6 @@ use Rattle.replay.specs.declared.answers.Replayed.{Replayed}
 use Rattle.keys.specs.declared.answer.KeyAnswer.the-variants.{Wrote, Refused}
 use Rattle.keys.specs.Key.{short, kindsOf, partsOf, keyed, bodyKey, outcomeKey, keyOf}
 use Rattle.keys.specs.Putting.{room, kindsPlace, After, after, afterNumbers, kindNumbers, Put, copied}
-use Rattle.keys.proofs.Behind.{behind, behind-one}
 use Rattle.keys.proofs.Kinding.{few-kinds}
 use Rattle.keys.proofs.Paths.{block-numbers, length-blocks}
 

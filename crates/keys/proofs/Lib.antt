@@ -1,4 +1,3 @@
-pub mod Behind
 pub mod Kinding
 pub mod KindsFit
 pub mod BlocksFit
