@@ -37,7 +37,7 @@ use Rattle.key.proofs.Starts.{fits-of, of-fits, fits-count}
 use Rattle.key.proofs.Written.{length-body}
 use Rattle.keys.specs.declared.answer.KeyAnswer.the-variants.{Wrote, Refused}
 use Rattle.keys.specs.Key.{short, blockOf, blocksOf, partsOf, keyed, bodyKey, outcomeKey, keyOf}
-use Rattle.keys.proofs.Bodies.{put-small}
+use Rattle.keys.proofs.Bodies.{head-small, state-small, put-small}
 use Rattle.keys.proofs.Kinding.{small-noted, small-kinds}
 use Rattle.keys.proofs.KindsFit.{kinds-fit}
 use Rattle.keys.proofs.BlocksFit.{path-small, all-fit}
@@ -85,13 +85,15 @@ module _ (s : Settings) (code : List ℕ) (l : Launchable s code) (m : Machine) 
   -- every number is below 2^32
   machine-small : kernel < bound → Small (numbersOf (partsOf kernel f (stateOf (m .wave) (m .preds))))
   machine-small k =
-      put-small kernel f (stateOf (m .wave) (m .preds)) room (length-array (m .wave .path) room) k (omega (arith, there, few-words))
+      put-small kernel f (stateOf (m .wave) (m .preds))
+      (head-small kernel (m .wave .place) f k (omega (arith, there, few-words))
       (small-kinds f (small-noted 1 (f .odd) (omega arith) (active-small (f .odd) (lanes .odd)))
       (small-noted 2 (f .device) (omega arith) (active-small (f .device) (lanes .device)))
       (small-noted 3 (f .local) (omega arith) (active-small (f .local) (lanes .local)))
       (small-noted 4 (f .divisor) (omega arith) (active-small (f .divisor) (lanes .divisor)))
-      (small-noted 5 (f .barrier) (omega arith) (active-small (f .barrier) (lanes .barrier))))
-      (active-small (m .wave .active) (λ i. omega arith)) halted-small (path-small (length code) few-words (m .wave .path) blocks-sized)
+      (small-noted 5 (f .barrier) (omega arith) (active-small (f .barrier) (lanes .barrier)))))
+      (state-small (stateOf (m .wave) (m .preds)) room (length-array (m .wave .path) room)
+      (active-small (m .wave .active) (λ i. omega arith)) halted-small (path-small (length code) few-words (m .wave .path) blocks-sized))
 
   -- the body is of the layout
   machine-fits : fitsLayout (partsOf kernel f (stateOf (m .wave) (m .preds))) ≡ true

@@ -13,7 +13,6 @@ use Rattle.numbers.proofs.Numerals.{small-nil, small-cons, small-append}
 use Rattle.numbers.proofs.Placing.{placed-nil}
 use Rattle.numbers.proofs.Behind.{behind, one-number, behind-one}
 use Rattle.key.specs.Body.{twoOf}
-use Rattle.key.proofs.Written.{length-twos}
 use Rattle.compute.specs.declared.Faults.{Faults}
 use Rattle.compute.specs.Faulting.{Fault, note}
 use Rattle.keys.specs.Key.{faultOf, kindsOf}
@@ -140,13 +139,6 @@ kind-place k l at r o o₁ e =
     let x : r ≡ at + 4 * length (noted k l) = ap (λ (z : After). z .place) e in
     let y : length (noted k l) ≤ 2 = noted-test (eqb l 0) k l in
     omega arith
-
--- all of them take at most forty
-pub kinds-place : (f : Faults) (r at : ℕ) (o o₁ : List ℕ) → after r o₁ ≡ afterNumbers (kindNumbers f) at o → r ≤ at + 40
-unfolding afterNumbers kindNumbers
-kinds-place f r at o o₁ e =
-    let x : r ≡ at + 4 * length (kindNumbers f) = ap (λ (z : After). z .place) e in
-    omega (arith, length-twos (kindsOf f), few-kinds f)
 
 -- ---- their size
 
