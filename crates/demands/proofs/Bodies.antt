@@ -32,11 +32,11 @@ use Rattle.replay.proofs.Stopping.{FaultsAt}
 use Rattle.replay.proofs.FaultKinds.{Faulty, step-faulty, FaultLanes, step-lanes}
 use Rattle.replay.proofs.Returns.{Launchable, lanes-most, InOrder}
 use Rattle.key.specs.Body.{Block as SaidBlock, Parts, numbersOf, bytesOfBody}
-use Rattle.key.specs.Layout.{mostDepth, longest, blockFits, fitsLayout}
+use Rattle.key.specs.Layout.{mostDepth, longest, short, blockFits, fitsLayout}
 use Rattle.key.proofs.Starts.{fits-of, of-fits, fits-count}
 use Rattle.key.proofs.Written.{length-body}
 use Rattle.keys.specs.declared.answer.KeyAnswer.the-variants.{Wrote, Refused}
-use Rattle.keys.specs.Key.{short, blockOf, blocksOf, partsOf, keyed, bodyKey, outcomeKey, keyOf}
+use Rattle.keys.specs.Key.{blockOf, blocksOf, partsOf, keyed, bodyKey, outcomeKey, keyOf}
 use Rattle.keys.proofs.Bodies.{head-small, state-small, put-small}
 use Rattle.keys.proofs.Kinding.{small-noted, small-kinds}
 use Rattle.keys.proofs.KindsFit.{kinds-fit}

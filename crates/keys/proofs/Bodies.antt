@@ -16,7 +16,7 @@ use Rattle.numbers.proofs.Behind.{behind, behind-one}
 use Rattle.key.specs.declared.BodyAnswer.the-variants.{Length}
 use Rattle.key.specs.declared.BodyAnswer.the-variants.{Refused as NoBody}
 use Rattle.key.specs.Body.{Parts, numbersOf, bytesOfBody}
-use Rattle.key.specs.Layout.{fitsLayout, mostDepth, sizeAt, startsBody, bodyAnswer, notOfLayout}
+use Rattle.key.specs.Layout.{fitsLayout, mostDepth, sizeAt, startsBody, bodyAnswer, short, notOfLayout}
 use Rattle.key.proofs.Starts.{fits-of, of-starts, length-says, refused-says}
 use Rattle.key.proofs.Written.{length-twos, length-body, parts-back, size-back}
 use Rattle.wave.specs.declared.state.State.{State}
@@ -25,7 +25,7 @@ use Rattle.compute.specs.declared.Faults.{Faults}
 use Rattle.replay.specs.declared.answers.Outcome.{Outcome}
 use Rattle.replay.specs.declared.answers.Replayed.{Replayed}
 use Rattle.keys.specs.declared.answer.KeyAnswer.the-variants.{Wrote, Refused}
-use Rattle.keys.specs.Key.{short, kindsOf, partsOf, keyed, bodyKey, outcomeKey, keyOf}
+use Rattle.keys.specs.Key.{kindsOf, partsOf, keyed, bodyKey, outcomeKey, keyOf}
 use Rattle.keys.specs.Putting.{room, kindsPlace, kindsEnd, After, after, afterNumbers, kindNumbers, headNumbers, stateNumbers, Put, copied}
 use Rattle.keys.proofs.Kinding.{few-kinds}
 use Rattle.keys.proofs.Paths.{block-numbers, length-blocks}

@@ -8,11 +8,11 @@ use lib.ListN.{length, take}
 use Rattle.numbers.specs.Numbers.{bytesOfAll, Small}
 use Rattle.numbers.specs.Placed.{placed}
 use Rattle.key.specs.Body.{Parts, twoOf, sixOf, numbersOf, bytesOfBody}
-use Rattle.key.specs.Layout.{sizeAt, startsBody, notOfLayout}
+use Rattle.key.specs.Layout.{sizeAt, startsBody, short, notOfLayout}
 use Rattle.wave.specs.declared.state.State.{State}
 use Rattle.compute.specs.declared.Faults.{Faults}
 use Rattle.keys.specs.declared.answer.KeyAnswer.the-variants.{Wrote, Refused}
-use Rattle.keys.specs.Key.{short, kindsOf, blocksOf, Keying, keyed}
+use Rattle.keys.specs.Key.{kindsOf, blocksOf, Keying, keyed}
 
 -- the bytes of five fault kinds and 32 blocks: more than any body of the layout has
 abbrev pub room : ℕ
