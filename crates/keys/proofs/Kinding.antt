@@ -40,24 +40,22 @@ count-kinds f a b c d e ea eb ec ed ee =
     let k1 = count-test (eqb (f .odd) 0) (record { kind = 1; lanes = f .odd }) n2 in
     omega arith
 
-few-test : (t : Bool) (f : Fault) (rest : List Fault) → length (map faultOf (cond t rest (f ∷ rest))) ≤ 1 + length (map faultOf rest)
-few-test true f rest = omega arith
-few-test false f rest = omega arith
+few-test : (t : Bool) → cond t 0 1 ≤ 1
+few-test true = omega arith
+few-test false = omega arith
 
 -- at most five
 pub few-kinds : (f : Faults) → length (kindsOf f) ≤ 5
-unfolding kindsOf
 few-kinds f =
-    let n5 = note 5 (f .barrier) [] in
-    let n4 = note 4 (f .divisor) n5 in
-    let n3 = note 3 (f .local) n4 in
-    let n2 = note 2 (f .device) n3 in
-    let k5 = few-test (eqb (f .barrier) 0) (record { kind = 5; lanes = f .barrier }) [] in
-    let k4 = few-test (eqb (f .divisor) 0) (record { kind = 4; lanes = f .divisor }) n5 in
-    let k3 = few-test (eqb (f .local) 0) (record { kind = 3; lanes = f .local }) n4 in
-    let k2 = few-test (eqb (f .device) 0) (record { kind = 2; lanes = f .device }) n3 in
-    let k1 = few-test (eqb (f .odd) 0) (record { kind = 1; lanes = f .odd }) n2 in
-    omega arith
+    omega (
+      arith,
+      count-kinds f _ _ _ _ _ refl refl refl refl refl,
+      few-test (eqb (f .odd) 0),
+      few-test (eqb (f .device) 0),
+      few-test (eqb (f .local) 0),
+      few-test (eqb (f .divisor) 0),
+      few-test (eqb (f .barrier) 0),
+    )
 
 -- ---- the numbers
 
