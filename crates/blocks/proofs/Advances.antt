@@ -18,7 +18,7 @@ use Rattle.blocks.specs.Levels.{innermost, around, Stands}
 use Rattle.blocks.specs.Stacks.{Holds, Turned, Advances, partOf}
 use Rattle.blocks.proofs.Widths.{Fits}
 use Rattle.blocks.proofs.Passes.{step-in, step-past}
-use Rattle.blocks.proofs.Judging.{told, Gone, Entered, TurnOk, turn-ok}
+use Rattle.blocks.proofs.Judging.{told, Gone, Entered, TurnOk, turned-ok}
 use Rattle.blocks.proofs.Stacks.{loops-le, in-loop-is, part-of-inside}
 
 -- where a turn has been judged: part is the innermost block, l whether a loop is open, u the turn
@@ -55,9 +55,7 @@ module _ {code : Code} {at : ℕ} {s : Stack} {part : Inside} {l : Bool} {u : Tu
   stepped o x r e a = subst (λ (y : Next). Advances y r) (sym (step-in code at o (j .in-code) ∙ e)) a
 
   fine : (t : Turn) → u ≡ t → TurnOk at (code .size) (nesting - s .depth) t
-  fine t e =
-      subst (TurnOk at (code .size) (nesting - s .depth)) (j .turn ∙ e)
-      (turn-ok (code .item at) at (code .size) (nesting - s .depth) part l (j .fits at (j .in-code)) (j .in-code))
+  fine t e = turned-ok code at (nesting - s .depth) part l (j .fits) (j .in-code) (j .turn ∙ e)
 
   pub on-ok : {w : ℕ} {p : Inside} → u ≡ Go w p → (1 ≤ w) × (at + w ≤ code .size)
   on-ok {w} {p} e = fine (Go w p) e

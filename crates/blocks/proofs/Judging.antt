@@ -17,7 +17,7 @@ use Rattle.blocks.specs.Scan.{nesting, Part, before, after, looping, Ope
 use Rattle.blocks.specs.OpenAt.{loops}
 use Rattle.blocks.specs.Rules.{opening, turnOf}
 use Rattle.blocks.specs.Levels.{insideOf, innermost, around, Stands}
-use Rattle.blocks.proofs.Widths.{Ok}
+use Rattle.blocks.proofs.Widths.{Ok, Fits}
 
 -- where a turn that goes on leads
 pub record Gone (at w room : ℕ) (inside : Inside) (l : Bool) (o : List Open) (x : Next) : Type 0 where
@@ -126,7 +126,7 @@ jump-ok : (b : Bool) (at size room : ℕ) (inside : Inside) → at < size → Tu
 jump-ok true at size room inside h = omega arith
 jump-ok false at size room inside h = tt
 
-pub turn-ok : (i : Item) (at size room : ℕ) (inside : Inside) (l : Bool) → Ok at size i → at < size → TurnOk at size room (turnOf i room inside l)
+turn-ok : (i : Item) (at size room : ℕ) (inside : Inside) (l : Bool) → Ok at size i → at < size → TurnOk at size room (turnOf i room inside l)
 turn-ok (Item.Plain w) at size room inside l ok h = ok
 turn-ok Item.If at size room inside l ok h = opener-ok at size room Inside.Before l
 turn-ok Item.Else at size room Inside.Nothing l ok h = tt
@@ -144,6 +144,12 @@ turn-ok Item.Endloop at size room Inside.Before l ok h = tt
 turn-ok Item.Endloop at size room Inside.After l ok h = tt
 turn-ok Item.Endloop at size room Inside.Loop l ok h = tt
 turn-ok (Item.Bad n) at size room inside l ok h = tt
+
+-- at a place of code
+pub turned-ok : (code : Code) (at room : ℕ) (inside : Inside) (l : Bool) → Fits code → at < code .size → {t : Turn}
+    → turnOf (code .item at) room inside l ≡ t → TurnOk at (code .size) room t
+turned-ok code at room inside l fits h e =
+    subst (TurnOk at (code .size) room) e (turn-ok (code .item at) at (code .size) room inside l (fits at h) h)
 
 -- where no block is open, nothing closes
 abbrev pub NotClose : Turn → Type 0

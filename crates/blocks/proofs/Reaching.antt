@@ -15,7 +15,7 @@ use Rattle.blocks.specs.Rules.{turnOf}
 use Rattle.blocks.specs.Levels.{innermost, around, Stands, follows, LevelSays}
 use Rattle.blocks.proofs.Widths.{Fits}
 use Rattle.blocks.proofs.Passes.{run-to, run-past}
-use Rattle.blocks.proofs.Judging.{Gone, Entered, told, TurnOk, turn-ok, NotClose, nothing-closes}
+use Rattle.blocks.proofs.Judging.{Gone, Entered, told, TurnOk, turned-ok, NotClose, nothing-closes}
 
 -- the pass from `from` with the blocks o open comes to `at` with the same blocks open, but for an ELSE that was met
 pub record Reached (code : Code) (from : ℕ) (o : List Open) (at room : ℕ) (inside : Inside) (l : Bool) : Type 0 where
@@ -47,9 +47,7 @@ innermost-of-none (open-at part p ∷ n) e = let z : _≡_ {A = ℕ} 0 1 = cc in
 
 module _ {code : Code} {from room : ℕ} {inside : Inside} {l : Bool} {at : ℕ} {part : Inside} {u : Turn} (j : Here code from room inside l at part u) where
   fine : (t : Turn) → u ≡ t → TurnOk at (code .size) room t
-  fine t e =
-      subst (TurnOk at (code .size) room) (j .turn ∙ e)
-      (turn-ok (code .item at) at (code .size) room part l (j .fits at (j .in-code)) (j .in-code))
+  fine t e = turned-ok code at room part l (j .fits) (j .in-code) (j .turn ∙ e)
 
   -- a turn that goes on
   pub on-ok : {w : ℕ} {p : Inside} → u ≡ Go w p → (1 ≤ w) × (at + w ≤ code .size)

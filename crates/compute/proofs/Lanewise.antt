@@ -1,5 +1,5 @@
 -- Laws of `byLane`, and what holds at the turns of a loop that fills a list of zeros with f's numbers, lane by lane.
-use mathlib.Core.Path.{_≡_, refl, sym, _∙_}
+use mathlib.Core.Path.{_≡_, refl, sym, ap, ap₂, _∙_}
 use mathlib.Core.List.{List}
 use mathlib.Core.Logic.{dite}
 use Prim.Native.Nat.{ℕ, _+_, _≤_, _<_}
@@ -65,6 +65,19 @@ filled-more {W} {f} {l} {i} t b v e =
           (λ q. let z : k ≡ i = omega arith in rw z (getD-set-same l i v 0 (omega (arith, t .long, t .narrow)) ∙ e));
       rest = λ k p. getD-set-other l i k v 0 (λ z. omega arith) ∙ t .rest k (omega arith);
     }
+
+-- where the numbers are f's of a lane's register, or of two, a turn reads them where they stand
+pub filled-one : {shape : Shape} {regs : List ℕ} {a : ℕ} {l : List ℕ} {i j v : ℕ} (f : ℕ → ℕ) → Stands shape regs a
+    → Filled (shape .width) (λ k. f (getD (gatherOf shape regs a) k 0)) l i → i < shape .width → j ≡ slotIn shape i a → v ≡ f (getD regs j 0)
+    → Filled (shape .width) (λ k. f (getD (gatherOf shape regs a) k 0)) (set l i v) (i + 1)
+filled-one {i = i} {j = j} {v = v} f h t b e q = filled-more t b v (q ∙ ap f (read-gathered h i j e b))
+
+pub filled-two : {shape : Shape} {regs : List ℕ} {a a′ : ℕ} {l : List ℕ} {i j j′ v : ℕ} (f : ℕ → ℕ → ℕ) → Stands shape regs a × Stands shape regs a′
+    → Filled (shape .width) (λ k. f (getD (gatherOf shape regs a) k 0) (getD (gatherOf shape regs a′) k 0)) l i → i < shape .width
+    → j ≡ slotIn shape i a → j′ ≡ slotIn shape i a′ → v ≡ f (getD regs j 0) (getD regs j′ 0)
+    → Filled (shape .width) (λ k. f (getD (gatherOf shape regs a) k 0) (getD (gatherOf shape regs a′) k 0)) (set l i v) (i + 1)
+filled-two {i = i} {j = j} {j′ = j′} {v = v} f h t b e e′ q =
+    filled-more t b v (q ∙ ap₂ f (read-gathered (h .0) i j e b) (read-gathered (h .1) i j′ e′ b))
 
 pub filled-all : {W : ℕ} {f : ℕ → ℕ} {l : List ℕ} {i : ℕ} → Filled W f l i → W ≤ i → l ≡ byLane W f
 unfolding byLane

@@ -9,43 +9,41 @@ use borrow.Author.Tests.{leb-true, le-leb}
 use lib.Dec.{leb}
 use lib.ListN.{length}
 use Rattle.ground.specs.Tests.{allOf}
-use Rattle.lanes.specs.Sets.{bit, first}
+use Rattle.lanes.specs.Sets.{bit, first, widest}
+use Rattle.lanes.proofs.Bits.{within-first-lt}
 use Rattle.numbers.specs.Numbers.{bound, Small}
 use Rattle.numbers.specs.Placed.{placed}
 use Rattle.words.specs.Fetching.{instrAt}
 use Rattle.wave.specs.declared.state.Block.{Block}
 use Rattle.wave.specs.declared.state.State.{State}
-use Rattle.wave.specs.Wave.{Wave, Preds, stateOf}
+use Rattle.wave.specs.Wave.{stateOf}
 use Rattle.wave.proofs.AtLane.{launched, fits-lanes}
 use Rattle.wave.proofs.Keeps.{active-launched}
-use Rattle.wave.proofs.Laying.{opened-laid}
+use Rattle.wave.proofs.Laying.{length-array}
 use Rattle.wave.proofs.Stays.{path-room}
+use Rattle.wave.proofs.OpenBlocks.{AllSized, path-sized}
 use Rattle.compute.specs.declared.Faults.{Faults}
 use Rattle.replay.specs.declared.settings.Settings.{Settings}
 use Rattle.replay.specs.declared.answers.Outcome.{Outcome}
 use Rattle.replay.specs.Machine.{Machine}
 use Rattle.replay.specs.Replay.{mostWords}
 use Rattle.replay.proofs.Keeping.{inside}
+use Rattle.replay.proofs.Stopping.{FaultsAt}
+use Rattle.replay.proofs.FaultKinds.{Faulty, step-faulty, FaultLanes, step-lanes}
 use Rattle.replay.proofs.Returns.{Launchable, lanes-most, InOrder}
 use Rattle.key.specs.Body.{Block as SaidBlock, Parts, numbersOf, bytesOfBody}
-use Rattle.key.specs.Layout.{mostDepth, longest, blockFits, fitsLayout}
+use Rattle.key.specs.Layout.{mostDepth, longest, short, blockFits, fitsLayout}
 use Rattle.key.proofs.Starts.{fits-of, of-fits, fits-count}
 use Rattle.key.proofs.Written.{length-body}
 use Rattle.keys.specs.declared.answer.KeyAnswer.the-variants.{Wrote, Refused}
-use Rattle.keys.specs.Key.{short, blockOf, blocksOf, partsOf, keyed, bodyKey, outcomeKey, keyOf}
-use Rattle.keys.proofs.Bodies.{put-small}
+use Rattle.keys.specs.Key.{blockOf, blocksOf, partsOf, keyed, bodyKey, outcomeKey, keyOf}
+use Rattle.keys.proofs.Bodies.{head-small, state-small, put-small}
 use Rattle.keys.proofs.Kinding.{small-noted, small-kinds}
-use Rattle.keys.proofs.Paths.{length-blocks}
+use Rattle.keys.proofs.KindsFit.{kinds-fit}
+use Rattle.keys.proofs.BlocksFit.{path-small, all-fit}
+use Rattle.keys.proofs.Paths.{length-blocks, blocks-path}
 use Rattle.demands.specs.Keys.{Faulted, answerOf, pathOf, Writes}
-use Rattle.demands.proofs.Stopping.{FaultsAt}
-use Rattle.demands.proofs.FaultKinds.{Faulty, step-faulty, kinds-fit, FaultLanes, step-lanes}
-use Rattle.demands.proofs.OpenBlocks.{launched-small, AllSized, path-sized, path-small, array-long, all-fit}
 use Rattle.demands.proofs.Histories.{Held, history-held}
-
--- the blocks that a body says are the wave's, outermost first
-blocks-path : (w : Wave) (ps : Preds) → blocksOf (stateOf w ps) ≡ map blockOf (reverse (w .path))
-unfolding blocksOf
-blocks-path w ps = ap (λ (p : List Block). map blockOf (reverse p)) (opened-laid (w .path) _)
 
 -- ---- a machine in order whose instruction faults
 module _ (s : Settings) (code : List ℕ) (l : Launchable s code) (m : Machine) (o : InOrder s code l m) (f : Faults) (x : FaultsAt s code m f)
@@ -65,12 +63,12 @@ module _ (s : Settings) (code : List ℕ) (l : Launchable s code) (m : Machine) 
   -- a set of active lanes, and the halted lanes
   active-small : (set : ℕ) → ((i : ℕ) → bit set i ≤ bit (m .wave .active) i) → set < bound
   active-small set h =
-      launched-small (s .lanes) set (lanes-most s code l)
+      within-first-lt (s .lanes) widest set (lanes-most s code l)
       (λ i. omega (arith, h i, active-launched (s .lanes) (m .wave) (m .preds) (o .fits .sets) i))
 
   halted-small : m .wave .halted < bound
   halted-small =
-      launched-small (s .lanes) (m .wave .halted) (lanes-most s code l)
+      within-first-lt (s .lanes) widest (m .wave .halted) (lanes-most s code l)
       (λ i.
       omega (
         arith,
@@ -81,19 +79,21 @@ module _ (s : Settings) (code : List ℕ) (l : Launchable s code) (m : Machine) 
   room : length (m .wave .path) ≤ mostDepth
   room = path-room code (s .registers) (s .lanes) (m .wave) (m .preds) (o .fits)
 
-  blocks-sized : AllSized (m .wave .path)
-  blocks-sized = path-sized code (s .registers) (s .lanes) (lanes-most s code l) few-words (m .wave) (m .preds) (o .fits)
+  blocks-sized : AllSized (length code) (m .wave .path)
+  blocks-sized = path-sized code (s .registers) (s .lanes) (lanes-most s code l) (m .wave) (m .preds) (o .fits)
 
   -- every number is below 2^32
   machine-small : kernel < bound → Small (numbersOf (partsOf kernel f (stateOf (m .wave) (m .preds))))
   machine-small k =
-      put-small kernel f (stateOf (m .wave) (m .preds)) room (array-long (m .wave .path) room) k (omega (arith, there, few-words))
+      put-small kernel f (stateOf (m .wave) (m .preds))
+      (head-small kernel (m .wave .place) f k (omega (arith, there, few-words))
       (small-kinds f (small-noted 1 (f .odd) (omega arith) (active-small (f .odd) (lanes .odd)))
       (small-noted 2 (f .device) (omega arith) (active-small (f .device) (lanes .device)))
       (small-noted 3 (f .local) (omega arith) (active-small (f .local) (lanes .local)))
       (small-noted 4 (f .divisor) (omega arith) (active-small (f .divisor) (lanes .divisor)))
-      (small-noted 5 (f .barrier) (omega arith) (active-small (f .barrier) (lanes .barrier))))
-      (active-small (m .wave .active) (λ i. omega arith)) halted-small (path-small (m .wave .path) blocks-sized)
+      (small-noted 5 (f .barrier) (omega arith) (active-small (f .barrier) (lanes .barrier)))))
+      (state-small (stateOf (m .wave) (m .preds)) room (length-array (m .wave .path) room)
+      (active-small (m .wave .active) (λ i. omega arith)) halted-small (path-small (length code) few-words (m .wave .path) blocks-sized))
 
   -- the body is of the layout
   machine-fits : fitsLayout (partsOf kernel f (stateOf (m .wave) (m .preds))) ≡ true
@@ -104,7 +104,7 @@ module _ (s : Settings) (code : List ℕ) (l : Launchable s code) (m : Machine) 
         place = omega (arith, there, few-words);
         faults = kinds-fit f faulty (x .unclear);
         depth = omega (arith, length-blocks (stateOf (m .wave) (m .preds)), room);
-        blocks = ap (λ (p : List SaidBlock). allOf blockFits p) (blocks-path (m .wave) (m .preds)) ∙ all-fit (m .wave .path) blocks-sized;
+        blocks = ap (λ (p : List SaidBlock). allOf blockFits p) (blocks-path (m .wave) (m .preds)) ∙ all-fit (length code) few-words (m .wave .path) blocks-sized;
       })
 
 -- ---- a history that faults

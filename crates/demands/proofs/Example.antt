@@ -25,6 +25,7 @@ use Rattle.replay.specs.Step.{stepOf}
 use Rattle.replay.specs.Run.{runOf}
 use Rattle.replay.specs.Replay.{mostSteps, launchOf, resumeOf}
 use Rattle.key.specs.Layout.{longest}
+use Rattle.marked.specs.Table.{t13, t14}
 use Rattle.demands.specs.Steps.{stepsOf}
 use Rattle.demands.specs.Path.{unclosed, blocksIn, loopsIn, turnedIn, asideOf, againOf, leftOf, marksOf, pathFrom}
 use Rattle.demands.specs.History.{Allowed, Start, byLaunch, fromState, Calls, testAt, blocksAt, lastOf}
@@ -33,13 +34,6 @@ use Rattle.demands.proofs.Bodies.{always-writes}
 use Rattle.demands.proofs.Agreeing.{bodies-agree}
 
 -- ---- the calls
-
-abbrev t13 : List ℕ
-t13 = 0xF2000000 ∷ 0x03010000 ∷ 0x00000000 ∷ []
-
-abbrev t14 : List ℕ
-t14 =
-    0xF2000000 ∷ 0xF1010000 ∷ 0x00000001 ∷ 0x28010000 ∷ 0x01000000 ∷ 0x3F000030 ∷ 0x3F000041 ∷ 0x03010100 ∷ 0x00000000 ∷ 0x3F000060 ∷ []
 
 -- W 8 and R 2, no memory; n lanes
 abbrev calls : ℕ → Start → List ℕ → List ℕ → ℕ → List ℕ → Calls

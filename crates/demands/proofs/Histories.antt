@@ -23,6 +23,7 @@ use Rattle.replay.specs.Run.{runOf}
 use Rattle.replay.specs.Replay.{mostWords, mostSteps, unless, launchTest, resumeTest, Answered, ending, launchMachine, stateMachine}
 use Rattle.replay.specs.Calls.{budgeted, resumedWith}
 use Rattle.replay.proofs.Keeping.{run-keeps, run-long}
+use Rattle.replay.proofs.Stopping.{FaultsAt, run-stops}
 use Rattle.replay.proofs.Returns.{
   Launchable,
   launchable,
@@ -58,7 +59,6 @@ use Rattle.demands.specs.History.{
 }
 use Rattle.demands.specs.Closing.{EachHandsBack}
 use Rattle.demands.proofs.Following.{Told, told-none, run-told}
-use Rattle.demands.proofs.Stopping.{FaultsAt, run-stops}
 
 -- what the steps tell of the state that was answered, with bs the blocks that were open before them
 pub record Tells (bs : List Block) (p : Point) : Type 0 where

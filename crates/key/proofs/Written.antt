@@ -53,7 +53,8 @@ module _ (s t : List ℕ) where
 same-parts : (p q : Parts) → p .kernel ≡ q .kernel → p .place ≡ q .place → p .faults ≡ q .faults → p .active ≡ q .active → p .halted ≡ q .halted → p .blocks ≡ q .blocks → p ≡ q
 same-parts p q a b c d e f = λ i. record { kernel = a i; place = b i; faults = c i; active = d i; halted = e i; blocks = f i }
 
-length-twos : (fs : List Fault) → length (flatMap twoOf fs) ≡ 2 * length fs
+-- two numbers a fault kind, six a block
+pub length-twos : (fs : List Fault) → length (flatMap twoOf fs) ≡ 2 * length fs
 unfolding flatMap twoOf
 length-twos [] = refl
 length-twos (f ∷ fs) = let ih = length-twos fs in omega arith

@@ -1,5 +1,5 @@
 -- The body of parts: put piece by piece, read again from the buffer it was put into, and copied from there.
-use mathlib.Core.Path.{_≡_, refl, sym, ap, ap₂, _∙_}
+use mathlib.Core.Path.{_≡_, refl, sym, ap, ap₂, _∙_, subst}
 use Prim.Native.Nat.{ℕ, _+_, _*_, _≤_, _<_}
 use mathlib.Core.Bool.{false, and-true}
 use mathlib.Core.List.{List, _∷_, _++_}
@@ -12,65 +12,83 @@ use Rattle.numbers.specs.Numbers.{bytesOf, bytesOfAll, bound, Small}
 use Rattle.numbers.specs.Placed.{placed}
 use Rattle.numbers.proofs.Numerals.{small-cons, small-append}
 use Rattle.numbers.proofs.Placing.{placed-front}
+use Rattle.numbers.proofs.Behind.{behind, behind-one}
 use Rattle.key.specs.declared.BodyAnswer.the-variants.{Length}
 use Rattle.key.specs.declared.BodyAnswer.the-variants.{Refused as NoBody}
 use Rattle.key.specs.Body.{Parts, numbersOf, bytesOfBody}
-use Rattle.key.specs.Layout.{fitsLayout, mostDepth, sizeAt, startsBody, bodyAnswer, notOfLayout}
+use Rattle.key.specs.Layout.{fitsLayout, mostDepth, sizeAt, startsBody, bodyAnswer, short, notOfLayout}
 use Rattle.key.proofs.Starts.{fits-of, of-starts, length-says, refused-says}
-use Rattle.key.proofs.Written.{length-body, parts-back, size-back}
+use Rattle.key.proofs.Written.{length-twos, length-body, parts-back, size-back}
 use Rattle.wave.specs.declared.state.State.{State}
 use Rattle.wave.specs.Layout.{blockNumbers, pathNumbers}
 use Rattle.compute.specs.declared.Faults.{Faults}
 use Rattle.replay.specs.declared.answers.Outcome.{Outcome}
 use Rattle.replay.specs.declared.answers.Replayed.{Replayed}
 use Rattle.keys.specs.declared.answer.KeyAnswer.the-variants.{Wrote, Refused}
-use Rattle.keys.specs.Key.{short, kindsOf, partsOf, keyed, bodyKey, outcomeKey, keyOf}
-use Rattle.keys.specs.Putting.{room, kindsPlace, After, after, afterNumbers, kindNumbers, Put, copied}
-use Rattle.keys.proofs.Behind.{behind, behind-one}
+use Rattle.keys.specs.Key.{kindsOf, partsOf, keyed, bodyKey, outcomeKey, keyOf}
+use Rattle.keys.specs.Putting.{room, kindsPlace, kindsEnd, After, after, afterNumbers, kindNumbers, headNumbers, stateNumbers, Put, copied}
 use Rattle.keys.proofs.Kinding.{few-kinds}
 use Rattle.keys.proofs.Paths.{block-numbers, length-blocks}
 
 -- ---- put piece by piece
 
-module _ (kernel : ℕ) (f : Faults) (s : State) (low : s .hot .depth ≤ mostDepth) (long : length (s .blocks) ≡ pathNumbers) where
-  -- the numbers as the code puts them
-  numbers-are : kernel ∷ s .hot .place ∷ length (kindsOf f) ∷ (kindNumbers f ++ (s .hot .active ∷ s .hot .halted ∷ s .hot .depth ∷ take (blockNumbers * s .hot .depth) (s .blocks)))
-      ≡ numbersOf (partsOf kernel f s)
-  unfolding numbersOf partsOf kindNumbers
-  numbers-are = rw (length-blocks s, block-numbers s (omega arith))
-
-  pub put-stands : (o o₁ o₂ o₃ o₄ o₅ o₆ o₇ o₈ : List ℕ) (count at : ℕ) → o₁ ≡ placed o 0 (bytesOf kernel) → o₂ ≡ placed o₁ 4 (bytesOf (s .hot .place))
+-- kernel number, place and kinds
+module _ (kernel place : ℕ) (f : Faults) where
+  pub head-stands : (o o₁ o₂ o₃ o₄ : List ℕ) (count at : ℕ) → o₁ ≡ placed o 0 (bytesOf kernel) → o₂ ≡ placed o₁ 4 (bytesOf place)
       → count ≡ length (kindsOf f) → o₃ ≡ placed o₂ 8 (bytesOf count) → after at o₄ ≡ afterNumbers (kindNumbers f) kindsPlace o₃
-      → o₅ ≡ placed o₄ at (bytesOf (s .hot .active)) → o₆ ≡ placed o₅ (at + 4) (bytesOf (s .hot .halted)) → o₇ ≡ placed o₆ (at + 8) (bytesOf (s .hot .depth))
-      → o₈ ≡ placed o₇ (at + 12) (bytesOfAll (take (blockNumbers * s .hot .depth) (s .blocks)))
-      → o₈ ≡ placed o 0 (bytesOfBody (partsOf kernel f s))
+      → after at o₄ ≡ afterNumbers (headNumbers kernel place f) 0 o
+  unfolding afterNumbers headNumbers
+  head-stands o o₁ o₂ o₃ o₄ count at e1 e2 ec e3 e4 =
+      let kinds = kindNumbers f in
+      let p : at ≡ kindsPlace + 4 * length kinds = ap (λ (z : After). z .place) e4 in
+      let h3 = behind-one (length (kindsOf f)) kinds o₂ o₃ o₄ 8 12 refl (e3 ∙ ap (λ (n : ℕ). placed o₂ 8 (bytesOf n)) ec) (ap (λ (z : After). z .out) e4) in
+      let h2 = behind-one place (length (kindsOf f) ∷ kinds) o₁ o₂ o₄ 4 8 refl e2 h3 in
+      ap₂ after (omega (arith, p)) (behind-one kernel (place ∷ length (kindsOf f) ∷ kinds) o o₁ o₄ 0 4 refl e1 h2)
+
+  pub head-small : kernel < bound → place < bound → Small (kindNumbers f) → Small (headNumbers kernel place f)
+  unfolding headNumbers
+  head-small k p fs = small-cons kernel _ k (small-cons place _ p (small-cons (length (kindsOf f)) _ (omega (arith, few-kinds f)) fs))
+
+  pub head-place : (o o₁ : List ℕ) (at : ℕ) → after at o₁ ≡ afterNumbers (headNumbers kernel place f) 0 o → at ≤ kindsEnd
+  unfolding afterNumbers headNumbers kindNumbers
+  head-place o o₁ at e = omega (arith, ap (λ (z : After). z .place) e, length-twos (kindsOf f), few-kinds f)
+
+-- the sets, the depth and the blocks
+module _ (s : State) (low : s .hot .depth ≤ mostDepth) (long : length (s .blocks) ≡ pathNumbers) where
+  abbrev sixes : List ℕ
+  sixes = take (blockNumbers * s .hot .depth) (s .blocks)
+
+  sixes-are : s .hot .active ∷ s .hot .halted ∷ s .hot .depth ∷ sixes ≡ stateNumbers s
+  unfolding stateNumbers
+  sixes-are = rw (block-numbers s (omega arith))
+
+  pub state-stands : (o o₁ o₂ o₃ o₄ : List ℕ) (at : ℕ) → o₁ ≡ placed o at (bytesOf (s .hot .active)) → o₂ ≡ placed o₁ (at + 4) (bytesOf (s .hot .halted))
+      → o₃ ≡ placed o₂ (at + 8) (bytesOf (s .hot .depth)) → o₄ ≡ placed o₃ (at + 12) (bytesOfAll sixes) → o₄ ≡ placed o at (bytesOfAll (stateNumbers s))
+  state-stands o o₁ o₂ o₃ o₄ at e1 e2 e3 e4 =
+      let h3 = behind-one (s .hot .depth) sixes o₂ o₃ o₄ (at + 8) (at + 12) (omega arith) e3 e4 in
+      let h2 = behind-one (s .hot .halted) (s .hot .depth ∷ sixes) o₁ o₂ o₄ (at + 4) (at + 8) (omega arith) e2 h3 in
+      behind-one (s .hot .active) (s .hot .halted ∷ s .hot .depth ∷ sixes) o o₁ o₄ at (at + 4) refl e1 h2
+      ∙ ap (λ (ns : List ℕ). placed o at (bytesOfAll ns)) sixes-are
+
+  pub state-small : s .hot .active < bound → s .hot .halted < bound → Small sixes → Small (stateNumbers s)
+  state-small a h bs =
+      subst Small sixes-are (small-cons (s .hot .active) _ a (small-cons (s .hot .halted) _ h (small-cons (s .hot .depth) _ (omega arith) bs)))
+
+-- all of them
+module _ (kernel : ℕ) (f : Faults) (s : State) where
+  numbers-are : headNumbers kernel (s .hot .place) f ++ stateNumbers s ≡ numbersOf (partsOf kernel f s)
+  unfolding headNumbers stateNumbers numbersOf partsOf kindNumbers
+  numbers-are = rw (length-blocks s)
+
+  pub put-stands : (o o₁ o₂ : List ℕ) (at : ℕ) → after at o₁ ≡ afterNumbers (headNumbers kernel (s .hot .place) f) 0 o
+      → o₂ ≡ placed o₁ at (bytesOfAll (stateNumbers s)) → o₂ ≡ placed o 0 (bytesOfBody (partsOf kernel f s))
   unfolding bytesOfBody afterNumbers
-  put-stands o o₁ o₂ o₃ o₄ o₅ o₆ o₇ o₈ count at e1 e2 ec e3 e4 e5 e6 e7 e8 =
-      let sixes = take (blockNumbers * s .hot .depth) (s .blocks) in
-      let p : at ≡ kindsPlace + 4 * length (kindNumbers f) = ap (λ (z : After). z .place) e4 in
-      let h7 = behind-one (s .hot .depth) sixes o₆ o₇ o₈ (at + 8) (at + 12) (omega arith) e7 e8 in
-      let h6 = behind-one (s .hot .halted) (s .hot .depth ∷ sixes) o₅ o₆ o₈ (at + 4) (at + 8) (omega arith) e6 h7 in
-      let h5 = behind-one (s .hot .active) (s .hot .halted ∷ s .hot .depth ∷ sixes) o₄ o₅ o₈ at (at + 4) refl e5 h6 in
-      let rest = s .hot .active ∷ s .hot .halted ∷ s .hot .depth ∷ sixes in
-      let h4 = behind (kindNumbers f) rest o₃ o₄ o₈ kindsPlace at p (ap (λ (z : After). z .out) e4) h5 in
-      let h3 = behind-one (length (kindsOf f)) (kindNumbers f ++ rest) o₂ o₃ o₈ 8 12 refl (e3 ∙ ap (λ (n : ℕ). placed o₂ 8 (bytesOf n)) ec) h4 in
-      let h2 = behind-one (s .hot .place) (length (kindsOf f) ∷ (kindNumbers f ++ rest)) o₁ o₂ o₈ 4 8 refl e2 h3 in
-      behind-one kernel (s .hot .place ∷ length (kindsOf f) ∷ (kindNumbers f ++ rest)) o o₁ o₈ 0 4 refl e1 h2
+  put-stands o o₁ o₂ at e1 e2 =
+      behind (headNumbers kernel (s .hot .place) f) (stateNumbers s) o o₁ o₂ 0 at (ap (λ (z : After). z .place) e1) (ap (λ (z : After). z .out) e1) e2
       ∙ ap (λ (ns : List ℕ). placed o 0 (bytesOfAll ns)) numbers-are
 
-  pub put-small : kernel < bound → s .hot .place < bound → Small (kindNumbers f) → s .hot .active < bound → s .hot .halted < bound
-      → Small (take (blockNumbers * s .hot .depth) (s .blocks))
-      → Small (numbersOf (partsOf kernel f s))
-  put-small k p fs a h bs =
-      let few = few-kinds f in
-      rw (← numbers-are)
-      (small-cons kernel _ k
-      (small-cons (s .hot .place) _ p
-      (small-cons (length (kindsOf f)) _ (omega arith)
-      (small-append (kindNumbers f) _ fs
-      (small-cons (s .hot .active) _ a
-      (small-cons (s .hot .halted) _ h
-      (small-cons (s .hot .depth) _ (omega arith) bs)))))))
+  pub put-small : Small (headNumbers kernel (s .hot .place) f) → Small (stateNumbers s) → Small (numbersOf (partsOf kernel f s))
+  put-small h k = subst Small numbers-are (small-append (headNumbers kernel (s .hot .place) f) (stateNumbers s) h k)
 
 -- there is room for it
 pub body-room : (kernel : ℕ) (f : Faults) (s : State) → s .hot .depth ≤ mostDepth → length (bytesOfBody (partsOf kernel f s)) ≤ room

@@ -6,17 +6,17 @@ use mathlib.Core.List.{List, [], _∷_, _++_, append-nil, map, flatMap}
 use native.Mathlib.Omega.{arith}
 use borrow.Author.Tests.{eq-eqb, ne-eqb}
 use lib.Dec.{eqb}
-use lib.ListN.{length}
+use lib.ListN.{length, length-append}
 use Rattle.numbers.specs.Numbers.{bytesOf, bytesOfAll, bound, Small}
 use Rattle.numbers.specs.Placed.{placed}
 use Rattle.numbers.proofs.Numerals.{small-nil, small-cons, small-append}
 use Rattle.numbers.proofs.Placing.{placed-nil}
-use Rattle.key.specs.Body.{Fault as Said, twoOf}
+use Rattle.numbers.proofs.Behind.{behind, one-number, behind-one}
+use Rattle.key.specs.Body.{twoOf}
 use Rattle.compute.specs.declared.Faults.{Faults}
 use Rattle.compute.specs.Faulting.{Fault, note}
 use Rattle.keys.specs.Key.{faultOf, kindsOf}
 use Rattle.keys.specs.Putting.{After, after, afterNumbers, noted, kindNumbers}
-use Rattle.keys.proofs.Behind.{one-number, behind-one, after-behind}
 
 -- ---- the count
 
@@ -40,30 +40,22 @@ count-kinds f a b c d e ea eb ec ed ee =
     let k1 = count-test (eqb (f .odd) 0) (record { kind = 1; lanes = f .odd }) n2 in
     omega arith
 
--- two numbers a kind
-length-twos : (fs : List Said) → length (flatMap twoOf fs) ≡ 2 * length fs
-unfolding flatMap twoOf
-length-twos [] = refl
-length-twos (f ∷ fs) = let ih = length-twos fs in omega arith
-
-few-test : (t : Bool) (f : Fault) (rest : List Fault) → length (map faultOf (cond t rest (f ∷ rest))) ≤ 1 + length (map faultOf rest)
-few-test true f rest = omega arith
-few-test false f rest = omega arith
+few-test : (t : Bool) → cond t 0 1 ≤ 1
+few-test true = omega arith
+few-test false = omega arith
 
 -- at most five
 pub few-kinds : (f : Faults) → length (kindsOf f) ≤ 5
-unfolding kindsOf
 few-kinds f =
-    let n5 = note 5 (f .barrier) [] in
-    let n4 = note 4 (f .divisor) n5 in
-    let n3 = note 3 (f .local) n4 in
-    let n2 = note 2 (f .device) n3 in
-    let k5 = few-test (eqb (f .barrier) 0) (record { kind = 5; lanes = f .barrier }) [] in
-    let k4 = few-test (eqb (f .divisor) 0) (record { kind = 4; lanes = f .divisor }) n5 in
-    let k3 = few-test (eqb (f .local) 0) (record { kind = 3; lanes = f .local }) n4 in
-    let k2 = few-test (eqb (f .device) 0) (record { kind = 2; lanes = f .device }) n3 in
-    let k1 = few-test (eqb (f .odd) 0) (record { kind = 1; lanes = f .odd }) n2 in
-    omega arith
+    omega (
+      arith,
+      count-kinds f _ _ _ _ _ refl refl refl refl refl,
+      few-test (eqb (f .odd) 0),
+      few-test (eqb (f .device) 0),
+      few-test (eqb (f .local) 0),
+      few-test (eqb (f .divisor) 0),
+      few-test (eqb (f .barrier) 0),
+    )
 
 -- ---- the numbers
 
@@ -96,6 +88,17 @@ kind-numbers f =
     (numbers-note 3 (f .local) n4
     ∙ ap (λ (l : List ℕ). noted 3 (f .local) ++ l)
     (numbers-note 4 (f .divisor) n5 ∙ ap (λ (l : List ℕ). noted 4 (f .divisor) ++ l) k5))))
+
+-- numbers behind numbers, and the place behind them all
+after-behind : (ms ns o o₁ o₂ : List ℕ) (p q r : ℕ) → after q o₁ ≡ afterNumbers ms p o → after r o₂ ≡ afterNumbers ns q o₁
+    → after r o₂ ≡ afterNumbers (ms ++ ns) p o
+unfolding afterNumbers
+after-behind ms ns o o₁ o₂ p q r a b =
+    let l = length-append ms ns in
+    let x : q ≡ p + 4 * length ms = ap (λ (z : After). z .place) a in
+    let y : r ≡ q + 4 * length ns = ap (λ (z : After). z .place) b in
+    let k : r ≡ p + 4 * length (ms ++ ns) = omega arith in
+    ap₂ after k (behind ms ns o o₁ o₂ p q x (ap (λ (z : After). z .out) a) (ap (λ (z : After). z .out) b))
 
 -- five kinds that were put one behind another
 pub five-kinds : (f : Faults) (o o₁ o₂ o₃ o₄ o₅ : List ℕ) (at p₁ p₂ p₃ p₄ p₅ : ℕ) → after p₁ o₁ ≡ afterNumbers (noted 1 (f .odd)) at o
@@ -134,13 +137,6 @@ kind-place k l at r o o₁ e =
     let x : r ≡ at + 4 * length (noted k l) = ap (λ (z : After). z .place) e in
     let y : length (noted k l) ≤ 2 = noted-test (eqb l 0) k l in
     omega arith
-
--- all of them take at most forty
-pub kinds-place : (f : Faults) (r at : ℕ) (o o₁ : List ℕ) → after r o₁ ≡ afterNumbers (kindNumbers f) at o → r ≤ at + 40
-unfolding afterNumbers kindNumbers
-kinds-place f r at o o₁ e =
-    let x : r ≡ at + 4 * length (kindNumbers f) = ap (λ (z : After). z .place) e in
-    omega (arith, length-twos (kindsOf f), few-kinds f)
 
 -- ---- their size
 

@@ -9,7 +9,8 @@ use Rattle.key.specs.Body.{Block, sixOf}
 use Rattle.wave.specs.declared.state.Block.{Block as OpenBlock}
 use Rattle.wave.specs.declared.state.State.{State}
 use Rattle.wave.specs.Layout.{blockNumbers, blockAt, opened}
-use Rattle.wave.proofs.Laying.{length-opened, drop-six}
+use Rattle.wave.specs.Wave.{Wave, Preds, stateOf}
+use Rattle.wave.proofs.Laying.{length-opened, opened-laid, drop-six}
 use Rattle.keys.specs.Key.{blockOf, blocksOf}
 
 sixes-append : (bs cs : List Block) → flatMap sixOf (bs ++ cs) ≡ flatMap sixOf bs ++ flatMap sixOf cs
@@ -50,3 +51,8 @@ length-blocks s =
     length-map (reverse (opened (s .blocks) (s .hot .depth))) blockOf
     ∙ length-reverse (opened (s .blocks) (s .hot .depth))
     ∙ length-opened (s .blocks) (s .hot .depth)
+
+-- the blocks that a body says are the wave's, outermost first
+pub blocks-path : (w : Wave) (ps : Preds) → blocksOf (stateOf w ps) ≡ map blockOf (reverse (w .path))
+unfolding blocksOf
+blocks-path w ps = ap (λ (p : List OpenBlock). map blockOf (reverse p)) (opened-laid (w .path) _)

@@ -14,14 +14,14 @@ use Rattle.numbers.specs.Numbers.{Small}
 use Rattle.numbers.specs.Placed.{placed}
 use Rattle.numbers.proofs.Placing.{placed-front}
 use Rattle.key.specs.Body.{Parts, numbersOf, bytesOfBody}
-use Rattle.key.specs.Layout.{fitsLayout, isBody, notOfLayout}
+use Rattle.key.specs.Layout.{fitsLayout, isBody, short, notOfLayout}
 use Rattle.key.proofs.Written.{one-body, written-body}
 use Rattle.wave.specs.declared.state.State.{State}
 use Rattle.compute.specs.declared.Faults.{Faults}
 use Rattle.replay.specs.declared.answers.Outcome.{Outcome}
 use Rattle.replay.specs.declared.answers.Replayed.{Replayed}
 use Rattle.keys.specs.declared.answer.KeyAnswer.the-variants.{Wrote, Refused}
-use Rattle.keys.specs.Key.{short, kindsOf, blocksOf, partsOf, Keying, keyed, bodyKey, outcomeKey, keyOf}
+use Rattle.keys.specs.Key.{kindsOf, blocksOf, partsOf, Keying, keyed, bodyKey, outcomeKey, keyOf}
 
 -- ---- what was written
 

@@ -6,7 +6,7 @@ use lib.Dec.{leb}
 use lib.ListN.{length}
 use Rattle.numbers.specs.Placed.{placed}
 use Rattle.key.specs.Body.{Fault, Block, Parts, bytesOfBody}
-use Rattle.key.specs.Layout.{fitsLayout, notOfLayout}
+use Rattle.key.specs.Layout.{fitsLayout, short, notOfLayout}
 use Rattle.wave.specs.declared.state.Block.{Block as OpenBlock}
 use Rattle.wave.specs.declared.state.State.{State}
 use Rattle.wave.specs.Layout.{opened}
@@ -16,10 +16,6 @@ use Rattle.replay.specs.declared.answers.Outcome.{Outcome}
 use Rattle.replay.specs.declared.answers.Replayed.{Replayed}
 use Rattle.keys.specs.declared.answer.KeyAnswer.{KeyAnswer}
 use Rattle.keys.specs.declared.answer.KeyAnswer.the-variants.{Wrote, Refused}
-
--- the refusal of an output that is shorter than the result
-abbrev pub short : ℕ
-short = 13
 
 -- ---- what the body says
 

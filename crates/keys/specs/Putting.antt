@@ -7,11 +7,12 @@ use lib.Dec.{eqb, leb}
 use lib.ListN.{length, take}
 use Rattle.numbers.specs.Numbers.{bytesOfAll, Small}
 use Rattle.numbers.specs.Placed.{placed}
-use Rattle.key.specs.Body.{Parts, twoOf, numbersOf, bytesOfBody}
-use Rattle.key.specs.Layout.{sizeAt, startsBody, notOfLayout}
+use Rattle.key.specs.Body.{Parts, twoOf, sixOf, numbersOf, bytesOfBody}
+use Rattle.key.specs.Layout.{sizeAt, startsBody, short, notOfLayout}
+use Rattle.wave.specs.declared.state.State.{State}
 use Rattle.compute.specs.declared.Faults.{Faults}
 use Rattle.keys.specs.declared.answer.KeyAnswer.the-variants.{Wrote, Refused}
-use Rattle.keys.specs.Key.{short, kindsOf, Keying, keyed}
+use Rattle.keys.specs.Key.{kindsOf, blocksOf, Keying, keyed}
 
 -- the bytes of five fault kinds and 32 blocks: more than any body of the layout has
 abbrev pub room : ℕ
@@ -20,6 +21,10 @@ room = 832
 -- where the fault kinds stand, behind kernel number, place and count
 abbrev pub kindsPlace : ℕ
 kindsPlace = 12
+
+-- the place behind five of them
+abbrev pub kindsEnd : ℕ
+kindsEnd = 52
 
 -- a place in a buffer, and what the buffer holds
 pub record After : Type 0 where
@@ -40,6 +45,14 @@ noted kind lanes = cond (eqb lanes 0) [] (kind ∷ lanes ∷ [])
 -- the numbers of the fault kinds
 unfoldable pub kindNumbers : Faults → List ℕ
 kindNumbers f = flatMap twoOf (kindsOf f)
+
+-- the numbers of a body up to the fault kinds
+unfoldable pub headNumbers : ℕ → ℕ → Faults → List ℕ
+headNumbers kernel place f = kernel ∷ place ∷ length (kindsOf f) ∷ kindNumbers f
+
+-- the numbers behind them: active and halted lanes, depth, open blocks
+unfoldable pub stateNumbers : State → List ℕ
+stateNumbers s = s .hot .active ∷ s .hot .halted ∷ s .hot .depth ∷ flatMap sixOf (blocksOf s)
 
 -- the body of p was put at the front of a buffer
 pub record Put (p : Parts) (before now : List ℕ) : Type 0 where

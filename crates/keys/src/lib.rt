@@ -4,8 +4,3 @@ mod putting;
 mod writing;
 
 pub use writing::write_key;
-
-// The refusals: output shorter than the result, not of the layout.
-const SHORT: u32 = 13;
-
-const NOT_OF_LAYOUT: u32 = 14;

@@ -14,7 +14,7 @@ ghost use Rattle.numbers.specs.Placed.{placed};
 ghost use Rattle.numbers.specs.Numbers.{Small, bytesOfAll};
 ghost use Rattle.key.specs.Layout.{mostDepth};
 ghost use Rattle.keys.specs.Key.{kindsOf, partsOf};
-ghost use Rattle.keys.specs.Putting.{room, kindsPlace, after, afterNumbers, noted, kindNumbers, Put};
+ghost use Rattle.keys.specs.Putting.{room, kindsPlace, kindsEnd, after, afterNumbers, noted, kindNumbers, headNumbers, stateNumbers, Put};
 
 // Where the fault kinds stand, behind kernel number, place and count.
 const KINDS_PLACE: usize = 12;
@@ -75,21 +75,36 @@ fn put_numbers(numbers: &[u32], at: usize, out: &mut [u8])
     }
 }
 
-// Puts the body of a fault at the front of `out`, as far as it fits.
-pub(crate) fn put_body(kernel: u32, f: Faults, state: State, out: &mut [u8])
-    requires { ⌜ state .hot .depth ≤ mostDepth ⌝ }
-    ensures { λ _. ⌜ Put (partsOf kernel f state) (now (out .entry)) (now (out .exit)) ⌝ }
+// Puts kernel number, place and fault kinds, with their count, at the front of `out`, and answers the place behind them.
+fn put_head(kernel: u32, place: u32, f: Faults, out: &mut [u8]) -> usize
+    ensures { λ r. ⌜ (after r (now (out .exit)) ≡ afterNumbers (headNumbers kernel place f) 0 (now (out .entry))) × Small (headNumbers kernel place f) ⌝ }
+{
+    put(out, 0, kernel);
+    put(out, 4, place);
+    put(out, 8, count_of(f));
+    put_kinds(f, out)
+}
+
+// Puts the active and the halted lanes, the depth and the open blocks of a state into `out` from `at` on.
+fn put_state(state: State, at: usize, out: &mut [u8])
+    requires { ⌜ (state .hot .depth ≤ mostDepth) × (at ≤ kindsEnd) ⌝ }
+    ensures { λ _. ⌜ (now (out .exit) ≡ placed (now (out .entry)) at (bytesOfAll (stateNumbers state))) × Small (stateNumbers state) ⌝ }
 {
     let hot = state.hot;
     let blocks = state.blocks;
     whole(&blocks);
-    put(out, 0, kernel);
-    put(out, 4, hot.place);
-    put(out, 8, count_of(f));
-    let at = put_kinds(f, out);
     put(out, at, hot.active);
     put(out, at + 4, hot.halted);
     put(out, at + 8, hot.depth);
     let open = BLOCK_NUMBERS * (hot.depth as usize);
     put_numbers(&blocks[..open], at + 12, out);
+}
+
+// Puts the body of a fault at the front of `out`, as far as it fits.
+pub(crate) fn put_body(kernel: u32, f: Faults, state: State, out: &mut [u8])
+    requires { ⌜ state .hot .depth ≤ mostDepth ⌝ }
+    ensures { λ _. ⌜ Put (partsOf kernel f state) (now (out .entry)) (now (out .exit)) ⌝ }
+{
+    let at = put_head(kernel, state.hot.place, f, out);
+    put_state(state, at, out);
 }

@@ -1,10 +1,10 @@
 // Writing a key.
-use crate::NOT_OF_LAYOUT;
-use crate::SHORT;
 use crate::answer::KeyAnswer;
 use crate::putting::put_body;
 use compute::Faults;
 use key::BodyAnswer;
+use key::NOT_OF_LAYOUT;
+use key::SHORT;
 use key::body_length;
 use numbers::put_bytes;
 use replay::answers::Outcome;

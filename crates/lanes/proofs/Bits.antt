@@ -139,6 +139,16 @@ bit-first (suc n) (suc i) =
         (λ h. lt-ltb i n h ∙ sym (lt-ltb (suc i) (suc n) (omega arith)))
         (λ h. le-ltb i n (omega arith) ∙ sym (le-ltb (suc i) (suc n) (omega arith)))
 
+pub first-below : (n i : ℕ) → i < n → bit (first n) i ≡ 1
+first-below n i h = bit-first n i ∙ rw (lt-ltb i n h)
+
+pub first-past : (n i : ℕ) → n ≤ i → bit (first n) i ≡ 0
+first-past n i h = bit-first n i ∙ rw (le-ltb i n h)
+
+-- a set within the first n lanes, of k, is below 2 ^ k
+pub within-first-lt : (n k s : ℕ) → n ≤ k → ((i : ℕ) → bit s i ≤ bit (first n) i) → s < 2 ^ k
+within-first-lt n k s l h = set-lt k s (λ i b. omega (arith, h i, first-past n i (omega arith)))
+
 pub first-lt : (n : ℕ) → first n < 2 ^ n
 unfolding first
 first-lt n = omega (arith, pow-pos n)

@@ -85,6 +85,23 @@ has-past n s i b h = has-bit s i false (bit-past n s i b h)
 pub has-lt : (n s i : ℕ) → s < 2 ^ n → has s i ≡ true → i < n
 has-lt n s i b t = dite (decLt i n) (λ h. h) (λ h. never (sym (has-past n s i b (omega arith)) ∙ t))
 
+-- ---- a set within another
+
+pub has-le : (a b : ℕ) → ((i : ℕ) → has a i ≡ true → has b i ≡ true) → (i : ℕ) → bit a i ≤ bit b i
+has-le a b h i = by (has a i) refl
+  where
+    by : (c : Bool) → has a i ≡ c → bit a i ≤ bit b i
+    by true e = omega (arith, bit-le a i, bit-has b i ∙ ap (λ (c : Bool). cond c 1 0) (h i e))
+    by false e = omega (arith, bit-has a i ∙ ap (λ (c : Bool). cond c 1 0) e)
+
+-- only the lanes t join a set that is as it was at the others
+pub joined-le : (p q t i : ℕ) → (has t i ≡ false → has p i ≡ has q i) → bit p i ≤ max (bit q i) (bit t i)
+joined-le p q t i h = by (has t i) refl
+  where
+    by : (c : Bool) → has t i ≡ c → bit p i ≤ max (bit q i) (bit t i)
+    by true e = omega (arith, bit-le p i, bit-has t i ∙ ap (λ (c : Bool). cond c 1 0) e)
+    by false e = omega (arith, bit-has p i ∙ ap (λ (c : Bool). cond c 1 0) (h e) ∙ sym (bit-has q i))
+
 -- ---- sets are told apart by their lanes
 
 pub has-ext : (a b : ℕ) → ((i : ℕ) → has a i ≡ has b i) → a ≡ b

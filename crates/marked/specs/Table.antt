@@ -69,6 +69,19 @@ one op pred negate rd rs1 rs2 number words =
 abbrev refusal : ℕ → Answer
 refusal number = read (ReadAnswer.Refused number 0)
 
+-- the words of T12, T13 and T14
+abbrev pub t12 : List ℕ
+t12 =
+    0xF2000000 ∷ 0xF1010000 ∷ 0x00000002 ∷ 0x2A010000 ∷ 0x01000000 ∷ 0x3F000001 ∷ 0xF1010000 ∷ 0x00000007 ∷ 0x3F000010 ∷ 0x3F000090 ∷ 0x3F000020
+    ∷ 0x00010100 ∷ 0x00000000 ∷ []
+
+abbrev pub t13 : List ℕ
+t13 = 0xF2000000 ∷ 0x03010000 ∷ 0x00000000 ∷ []
+
+abbrev pub t14 : List ℕ
+t14 =
+    0xF2000000 ∷ 0xF1010000 ∷ 0x00000001 ∷ 0x28010000 ∷ 0x01000000 ∷ 0x3F000030 ∷ 0x3F000041 ∷ 0x03010100 ∷ 0x00000000 ∷ 0x3F000060 ∷ []
+
 abbrev pub table : List Entry
 table =
     -- T1 to T6
@@ -87,14 +100,7 @@ table =
     ∷ entry (operation TwoOp.Mulhi 0xFFFFFFFF 0xFFFFFFFF) (value 0xFFFFFFFE)
     ∷ entry (address 0xFFFFFFFC 8) (value 4)
     -- T12 to T14
-    ∷ entry
-    (launching 8 4 2
-    (0xF2000000 ∷ 0xF1010000 ∷ 0x00000002 ∷ 0x2A010000 ∷ 0x01000000 ∷ 0x3F000001 ∷ 0xF1010000 ∷ 0x00000007 ∷ 0x3F000010 ∷ 0x3F000090 ∷ 0x3F000020
-    ∷ 0x00010100 ∷ 0x00000000 ∷ []))
-    (ended 9 (7 ∷ 8 ∷ 2 ∷ 2 ∷ []) 12)
-    ∷ entry (launching 8 2 2 (0xF2000000 ∷ 0x03010000 ∷ 0x00000000 ∷ [])) (faulted 1 (7 ∷ 1 ∷ 1 ∷ 4 ∷ 1 ∷ 3 ∷ 0 ∷ 0 ∷ []))
-    ∷ entry
-    (launching 8 3 2
-    (0xF2000000 ∷ 0xF1010000 ∷ 0x00000001 ∷ 0x28010000 ∷ 0x01000000 ∷ 0x3F000030 ∷ 0x3F000041 ∷ 0x03010100 ∷ 0x00000000 ∷ 0x3F000060 ∷ []))
-    (faulted 5 (7 ∷ 7 ∷ 1 ∷ 4 ∷ 1 ∷ 5 ∷ 0 ∷ 1 ∷ 3 ∷ 5 ∷ 7 ∷ 2 ∷ 0 ∷ 0 ∷ []))
+    ∷ entry (launching 8 4 2 t12) (ended 9 (7 ∷ 8 ∷ 2 ∷ 2 ∷ []) 12)
+    ∷ entry (launching 8 2 2 t13) (faulted 1 (7 ∷ 1 ∷ 1 ∷ 4 ∷ 1 ∷ 3 ∷ 0 ∷ 0 ∷ []))
+    ∷ entry (launching 8 3 2 t14) (faulted 5 (7 ∷ 7 ∷ 1 ∷ 4 ∷ 1 ∷ 5 ∷ 0 ∷ 1 ∷ 3 ∷ 5 ∷ 7 ∷ 2 ∷ 0 ∷ 0 ∷ []))
     ∷ []

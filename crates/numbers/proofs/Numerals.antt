@@ -4,7 +4,7 @@ use Prim.Native.Nat.{ℕ, zero, suc, _+_, _*_, _/_, _%_, _≤_, _<_}
 use mathlib.Core.List.{List, [], _∷_, _++_, append-assoc, flatMap}
 use native.Mathlib.Omega.{arith}
 use native.Mathlib.Nat.{add-zero, div-div-eq-div-mul, div-add-mod, mod-eq-of-lt}
-use lib.ListN.{length, getD, take, drop, length-append, List·getD-append, List·getD-eq-default}
+use lib.ListN.{length, getD, replicate, take, drop, length-append, List·getD-append, List·getD-eq-default}
 use lib.Seq.{length-take-le, getD-drop, drop-cons, drop-at, drop-drop}
 use Rattle.numbers.specs.Numbers.{bound, bytesOf, numberAt, bytesOfAll, Bytes, Small}
 use Rattle.numbers.specs.Placed.{placed}
@@ -129,6 +129,15 @@ small-append (m ∷ ms) ns h k = small-cons m (ms ++ ns) (h .below 0) (small-app
 pub small-drop : (ms ns : List ℕ) → Small (ms ++ ns) → Small ns
 small-drop [] ns h = h
 small-drop (m ∷ ms) ns h = small-drop ms ns (small-tail h)
+
+pub small-take : (k : ℕ) (ns : List ℕ) → Small ns → Small (take k ns)
+small-take zero ns h = small-nil
+small-take (suc k) [] h = small-nil
+small-take (suc k) (n ∷ ns) h = small-cons n (take k ns) (h .below 0) (small-take k ns (small-tail h))
+
+pub small-replicate : (k n : ℕ) → n < bound → Small (replicate k n)
+small-replicate zero n h = small-nil
+small-replicate (suc k) n h = small-cons n (replicate k n) h (small-replicate k n h)
 
 -- ---- lists of numbers
 

@@ -4,7 +4,7 @@ use mathlib.Core.Path.{_≡_, refl, ap, sym, _∙_}
 use mathlib.Core.Logic.{⊎-elim}
 use mathlib.Core.List.{List}
 use native.Mathlib.Nat.{zero-add, suc-add}
-use Rattle.ground.proofs.Bools.{split}
+use Rattle.ground.proofs.Tests.{true-or-false}
 use Rattle.compute.specs.Faulting.{clear}
 use Rattle.replay.specs.declared.settings.Settings.{Settings}
 use Rattle.replay.specs.declared.answers.Outcome.{Outcome}
@@ -41,7 +41,7 @@ module _ (s : Settings) (code : List ℕ) (b : ℕ) where
       ∙ ⊎-elim
       (λ e. at-ended s code b m e ∙ sym (ap goOn (at-ended s code 0 m e)))
       (λ e. sym (ap goOn (at-budget s code m e) ∙ later-zero (runOf s code b m)))
-      (split (endedOf s code m))
+      (true-or-false (endedOf s code m))
   runs-add (suc a) m =
       ap (λ (k : ℕ). runOf s code k m) (suc-add a b)
       ∙ ⊎-elim
@@ -52,5 +52,5 @@ module _ (s : Settings) (code : List ℕ) (b : ℕ) where
       at-clear s code (a + b) m e f ∙ ap (later 1) (runs-add a (stepAt s code m .end))
       ∙ sym (ap goOn (at-clear s code a m e f) ∙ goOn-later 1 (runOf s code a (stepAt s code m .end))))
       (λ f. at-fault s code (a + b) m e f ∙ sym (ap goOn (at-fault s code a m e f)))
-      (split (clear (stepAt s code m .faults))))
-      (split (endedOf s code m))
+      (true-or-false (clear (stepAt s code m .faults))))
+      (true-or-false (endedOf s code m))

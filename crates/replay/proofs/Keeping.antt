@@ -4,15 +4,16 @@ use mathlib.Core.Path.{_≡_, refl, sym, ap, _∙_, subst}
 use mathlib.Core.Bool.{Bool, true, false, cond, _||_}
 use mathlib.Core.Logic.{⊎-elim}
 use mathlib.Core.List.{List}
-use Prim.Native.Nat.{ℕ, zero, suc, _^_, _≤_, _<_, max}
+use Prim.Native.Nat.{ℕ, zero, suc, _^_, _≤_, _<_}
 use native.Mathlib.Omega.{arith}
 use borrow.Author.Tests.{leb-false}
 use lib.Dec.{eqb, leb}
 use lib.ListN.{length}
-use Rattle.ground.proofs.Bools.{never, split}
-use Rattle.lanes.specs.Sets.{bit, has, first, without}
-use Rattle.lanes.proofs.Bits.{bit-le, bit-zero}
-use Rattle.lanes.proofs.Members.{bit-has}
+use Rattle.ground.proofs.Bools.{never}
+use Rattle.ground.proofs.Tests.{true-or-false}
+use Rattle.lanes.specs.Sets.{bit, first, without}
+use Rattle.lanes.proofs.Bits.{bit-zero}
+use Rattle.lanes.proofs.Members.{joined-le}
 use Rattle.words.specs.declared.instr.Op.{Op}
 use Rattle.words.specs.declared.instr.Instr.{Instr}
 use Rattle.words.specs.Forms.{limitsOf, size}
@@ -43,14 +44,6 @@ use Rattle.replay.specs.Step.{shapeOf, launchedOf, lanesOf, computed, wa
 use Rattle.replay.specs.Run.{endedOf, stepAt, runOf, Ran}
 use Rattle.replay.specs.Replay.{mostWords}
 use Rattle.replay.proofs.Runs.{at-ended, at-budget, at-fault, at-clear}
-
--- only the lanes t join a predicate that is as it was at the others
-joined : (p q t i : ℕ) → (has t i ≡ false → has p i ≡ has q i) → bit p i ≤ max (bit q i) (bit t i)
-joined p q t i h =
-    ⊎-elim
-    (λ e. let z : bit t i ≡ 1 = bit-has t i ∙ ap (λ (c : Bool). cond c 1 0) e in omega (arith, bit-le p i))
-    (λ e. let z : bit p i ≡ bit q i = bit-has p i ∙ ap (λ (c : Bool). cond c 1 0) (h e) ∙ sym (bit-has q i) in omega arith)
-    (split (has t i))
 
 -- ---- predicates
 module _ (l : ℕ) (ps : Preds) (f : PredsFit l ps) where
@@ -137,7 +130,7 @@ module _ (code : List ℕ) (registers : ℕ) (checked : checkOf (codeOf code reg
         (λ i.
         omega (
           arith,
-          joined (computed s x (lanesOf x m) m .after .predicate) (named (x .rd) (m .preds)) (lanesOf x m) i
+          joined-le (computed s x (lanesOf x m) m .after .predicate) (named (x .rd) (m .preds)) (lanesOf x m) i
               (other-bits (shapeOf s) x (lanesOf x m) (record { predicate = named (x .rd) (m .preds); regs = m .regs; memories = m .memories }) i),
           named-fits (first n) (m .preds) p (x .rd) i,
           executing-within (x .guard) (m .wave .active) (m .preds) i,
@@ -169,7 +162,7 @@ module _ (code : List ℕ) (registers : ℕ) (checked : checkOf (codeOf code reg
         ⊎-elim
         (λ e. subst (λ (r : Ran). MachineFits (r .end)) (sym (at-ended s code 0 m e)) f)
         (λ e. subst (λ (r : Ran). MachineFits (r .end)) (sym (at-budget s code m e)) f)
-        (split (endedOf s code m))
+        (true-or-false (endedOf s code m))
     run-keeps (suc b) m f =
         ⊎-elim
         (λ e. subst (λ (r : Ran). MachineFits (r .end)) (sym (at-ended s code (suc b) m e)) f)
@@ -179,8 +172,8 @@ module _ (code : List ℕ) (registers : ℕ) (checked : checkOf (codeOf code reg
         subst (λ (r : Ran). MachineFits (r .end)) (sym (at-clear s code b m e c))
         (run-keeps b (stepAt s code m .end) (step-keeps m (inside s code m e) f)))
         (λ c. subst (λ (r : Ran). MachineFits (r .end)) (sym (at-fault s code b m e c)) f)
-        (split (clear (stepAt s code m .faults))))
-        (split (endedOf s code m))
+        (true-or-false (clear (stepAt s code m .faults))))
+        (true-or-false (endedOf s code m))
 
 -- ---- the registers
 module _ (s : Settings) (code : List ℕ) where
@@ -199,7 +192,7 @@ module _ (s : Settings) (code : List ℕ) where
   pub run-long : (b : ℕ) (m : Machine) → length (runOf s code b m .end .regs) ≡ length (m .regs)
   run-long zero m =
       ⊎-elim (λ e. ap (λ (r : Ran). length (r .end .regs)) (at-ended s code 0 m e)) (λ e. ap (λ (r : Ran). length (r .end .regs)) (at-budget s code m e))
-      (split (endedOf s code m))
+      (true-or-false (endedOf s code m))
   run-long (suc b) m =
       ⊎-elim
       (λ e. ap (λ (r : Ran). length (r .end .regs)) (at-ended s code (suc b) m e))
@@ -208,5 +201,5 @@ module _ (s : Settings) (code : List ℕ) where
       (λ c.
       ap (λ (r : Ran). length (r .end .regs)) (at-clear s code b m e c) ∙ run-long b (stepAt s code m .end) ∙ step-long m)
       (λ c. ap (λ (r : Ran). length (r .end .regs)) (at-fault s code b m e c))
-      (split (clear (stepAt s code m .faults))))
-      (split (endedOf s code m))
+      (true-or-false (clear (stepAt s code m .faults))))
+      (true-or-false (endedOf s code m))

@@ -1,6 +1,8 @@
 pub mod Runs
 pub mod Adding
 pub mod Keeping
+pub mod Stopping
+pub mod FaultKinds
 pub mod Returns
 pub mod Stepping
 pub mod Entering

@@ -10,7 +10,7 @@ use Rattle.blocks.specs.Scan.{checkOf}
 use Rattle.wave.specs.declared.state.State.{State}
 use Rattle.wave.specs.Wave.{stateOf, launch, clear}
 use Rattle.wave.specs.FitsTest.{fitsTest}
-use Rattle.compute.specs.Memory.{Memories}
+use Rattle.compute.specs.Memory.{Memories, memories}
 use Rattle.replay.specs.declared.settings.Settings.{Settings}
 use Rattle.replay.specs.declared.answers.Outcome.{Outcome}
 use Rattle.replay.specs.declared.answers.Replayed.{Replayed}
@@ -68,9 +68,6 @@ pub record Answered : Type 0 where
   pub state : State
   pub regs : List ℕ
   pub memories : Memories
-
-abbrev pub memories : List ℕ → List ℕ → Memories
-memories device local = record { device = device; local = local }
 
 abbrev pub answered : Replayed → List ℕ → List ℕ → List ℕ → Answered
 answered r regs device local =

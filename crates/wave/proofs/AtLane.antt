@@ -4,12 +4,11 @@ use mathlib.Core.Path.{_≡_, refl, sym, _∙_, subst}
 use mathlib.Core.Bool.{false}
 use mathlib.Core.List.{List, [], _∷_, _++_}
 use mathlib.Core.Logic.{dite}
-use Prim.Native.Nat.{ℕ, _+_, _≤_, _<_}
+use Prim.Native.Nat.{ℕ, _+_, _≤_}
 use native.Mathlib.Omega.{arith}
 use native.Mathlib.Decide.{decLt}
-use borrow.Author.Tests.{lt-ltb, le-ltb}
 use Rattle.lanes.specs.Sets.{bit, first}
-use Rattle.lanes.proofs.Bits.{bit-le, bit-zero, bit-first, set-ext}
+use Rattle.lanes.proofs.Bits.{bit-le, bit-zero, first-below, first-past, set-ext}
 use Rattle.wave.specs.declared.state.Block.{Block}
 use Rattle.wave.specs.Wave.{Wave, Preds}
 use Rattle.wave.specs.Rules.{isLoop}
@@ -39,12 +38,6 @@ count-append i [] ts = omega arith
 count-append i (s ∷ ss) ts = omega (arith, count-append i ss ts)
 
 -- ---- the launched lanes
-pub first-below : (n i : ℕ) → i < n → bit (first n) i ≡ 1
-first-below n i h = bit-first n i ∙ rw (lt-ltb i n h)
-
-pub first-past : (n i : ℕ) → n ≤ i → bit (first n) i ≡ 0
-first-past n i h = bit-first n i ∙ rw (le-ltb i n h)
-
 module _ (l h i : ℕ) where
   -- the same at an equal number
   pub at : {m n : ℕ} (bs : List Block) → m ≡ n → FitsAt l h i m bs → FitsAt l h i n bs

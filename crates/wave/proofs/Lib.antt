@@ -10,4 +10,5 @@ pub mod AtLane
 pub mod Fitting
 pub mod Keeps
 pub mod Stays
+pub mod OpenBlocks
 pub mod OneAnswer

@@ -18,8 +18,7 @@ use Rattle.words.specs.declared.table.FoundOp.{FoundOp}
 use Rattle.words.specs.Table.{opOf}
 use Rattle.words.specs.Forms.{limitsOf, sizeOf, size, fits}
 use Rattle.words.specs.Layout.{opcodeIn, modifierIn, instrIn, spareZero}
-use Rattle.words.specs.Refusals.{Rule}
-use Rattle.words.specs.Reading.{refused, readFields, readOp, readFrom, readAt}
+use Rattle.words.specs.Reading.{readFields, readOp, readFrom, readAt}
 use Rattle.words.specs.Fetching.{nop, saidBy, saidFrom, instrAt, controlIn}
 
 -- ---- by the numbers that the code has

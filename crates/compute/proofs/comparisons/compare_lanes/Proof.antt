@@ -1,5 +1,5 @@
 -- `compute::comparisons::compare_lanes` meets its contract: at turn i the lanes below i have their results.
-use mathlib.Core.Path.{ap, ap₂, _∙_}
+use mathlib.Core.Path.{ap, _∙_}
 use mathlib.Core.Bool.{Bool, cond}
 use Prim.Native.Nat.{ℕ, _-_, _<_}
 use native.Mathlib.Omega.{arith}
@@ -9,7 +9,7 @@ use Rattle.arith.specs.Arith.{compareOf}
 use Rattle.compute.specs.Registers.{gatherOf}
 use Rattle.compute.specs.Lanewise.{compareLanes}
 use Rattle.compute.proofs.Slots.{slot-in}
-use Rattle.compute.proofs.Lanewise.{read-gathered, Filled, filled-none, filled-more, filled-all}
+use Rattle.compute.proofs.Lanewise.{Filled, filled-none, filled-two, filled-all}
 use Rattle.compute.proofs.comparisons.compare_lanes.Statement.{statement}
 use Rattle.compute.proofs.comparisons.compare_lanes.Tie as tie
 
@@ -73,13 +73,9 @@ loop-again : tie.Need-loop-again Inv-loop μ-loop
 loop-again c =
     let z = c .before .before .before .before in
     let h = z .before .before .before in
-    let p = h .before .before .pre in
-    filled-more (h .loop .inv) (omega arith) _
-    (c .chosen .ensures
-    ∙ ap (λ (t : Bool). cond t 1 0) (c .before .compare .ensures)
-    ∙ ap₂ (λ (x y : ℕ). cond (compareOf (h .before .before .args .op) x y) 1 0)
-    (read-gathered (p .0) _ _ (z .before .slot .ensures) (omega arith))
-    (read-gathered (p .1) _ _ (z .slot2 .ensures) (omega arith)))
+    let a = h .before .before in
+    filled-two (λ (x y : ℕ). cond (compareOf (a .args .op) x y) 1 0) (a .pre) (h .loop .inv) (omega arith) (z .before .slot .ensures)
+    (z .slot2 .ensures) (c .chosen .ensures ∙ ap (λ (t : Bool). cond t 1 0) (c .before .compare .ensures))
 
 returns : tie.Need-returns Inv-loop μ-loop
 unfolding compareLanes

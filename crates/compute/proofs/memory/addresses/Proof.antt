@@ -1,5 +1,4 @@
 -- `compute::memory::addresses` meets its contract: at turn i the lanes below i have their results.
-use mathlib.Core.Path.{ap, _∙_}
 use Prim.Native.Nat.{ℕ, _-_, _<_}
 use native.Mathlib.Omega.{arith}
 use lib.ListN.{length, getD}
@@ -7,7 +6,7 @@ use borrow.Author.Needs.{needs}
 use Rattle.arith.specs.Arith.{addressOf}
 use Rattle.compute.specs.Registers.{gatherOf}
 use Rattle.compute.proofs.Slots.{slot-in}
-use Rattle.compute.proofs.Lanewise.{read-gathered, Filled, filled-none, filled-more, filled-all}
+use Rattle.compute.proofs.Lanewise.{Filled, filled-none, filled-one, filled-all}
 use Rattle.compute.proofs.memory.addresses.Statement.{statement}
 use Rattle.compute.proofs.memory.addresses.Tie as tie
 
@@ -55,8 +54,8 @@ loop-again : tie.Need-loop-again Inv-loop μ-loop
 loop-again c =
     let z = c .before .before in
     let h = z .before .before in
-    filled-more (h .loop .inv) (omega arith) _
-    (c .address .ensures ∙ ap (λ (x : ℕ). addressOf x (h .before .before .args .offset)) (read-gathered (h .before .before .pre) _ _ (z .slot .ensures) (omega arith)))
+    let a = h .before .before in
+    filled-one (λ (x : ℕ). addressOf x (a .args .offset)) (a .pre) (h .loop .inv) (omega arith) (z .slot .ensures) (c .address .ensures)
 
 returns : tie.Need-returns Inv-loop μ-loop
 returns c = filled-all (c .before .loop .inv) (omega arith)

@@ -1,6 +1,5 @@
 -- `compute::one_operand::one_lanes` meets its contract: at turn i the lanes below i have their results.
-use mathlib.Core.Path.{ap, _∙_}
-use Prim.Native.Nat.{ℕ, _-_, _<_}
+use Prim.Native.Nat.{_-_, _<_}
 use native.Mathlib.Omega.{arith}
 use lib.ListN.{length, getD}
 use borrow.Author.Needs.{needs}
@@ -8,7 +7,7 @@ use Rattle.arith.specs.Arith.{oneOf}
 use Rattle.compute.specs.Registers.{gatherOf}
 use Rattle.compute.specs.Lanewise.{oneLanes}
 use Rattle.compute.proofs.Slots.{slot-in}
-use Rattle.compute.proofs.Lanewise.{read-gathered, Filled, filled-none, filled-more, filled-all}
+use Rattle.compute.proofs.Lanewise.{Filled, filled-none, filled-one, filled-all}
 use Rattle.compute.proofs.one_operand.one_lanes.Statement.{statement}
 use Rattle.compute.proofs.one_operand.one_lanes.Tie as tie
 
@@ -56,8 +55,7 @@ loop-again : tie.Need-loop-again Inv-loop μ-loop
 loop-again c =
     let z = c .before .before in
     let h = z .before .before in
-    filled-more (h .loop .inv) (omega arith) _
-    (c .one .ensures ∙ ap (λ (x : ℕ). oneOf (h .before .before .args .op) x) (read-gathered (h .before .before .pre) _ _ (z .slot .ensures) (omega arith)))
+    filled-one (oneOf (h .before .before .args .op)) (h .before .before .pre) (h .loop .inv) (omega arith) (z .slot .ensures) (c .one .ensures)
 
 returns : tie.Need-returns Inv-loop μ-loop
 unfolding oneLanes

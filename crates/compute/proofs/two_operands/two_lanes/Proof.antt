@@ -1,6 +1,5 @@
 -- `compute::two_operands::two_lanes` meets its contract: at turn i the lanes below i have their results.
-use mathlib.Core.Path.{ap₂, _∙_}
-use Prim.Native.Nat.{ℕ, _-_, _<_}
+use Prim.Native.Nat.{_-_, _<_}
 use native.Mathlib.Omega.{arith}
 use lib.ListN.{length, getD}
 use borrow.Author.Needs.{needs}
@@ -8,7 +7,7 @@ use Rattle.arith.specs.Arith.{twoOf}
 use Rattle.compute.specs.Registers.{gatherOf}
 use Rattle.compute.specs.Lanewise.{twoLanes}
 use Rattle.compute.proofs.Slots.{slot-in}
-use Rattle.compute.proofs.Lanewise.{read-gathered, Filled, filled-none, filled-more, filled-all}
+use Rattle.compute.proofs.Lanewise.{Filled, filled-none, filled-two, filled-all}
 use Rattle.compute.proofs.two_operands.two_lanes.Statement.{statement}
 use Rattle.compute.proofs.two_operands.two_lanes.Tie as tie
 
@@ -69,12 +68,8 @@ loop-again : tie.Need-loop-again Inv-loop μ-loop
 loop-again c =
     let z = c .before .before .before in
     let h = z .before .before .before in
-    let p = h .before .before .pre in
-    filled-more (h .loop .inv) (omega arith) _
-    (c .two .ensures
-    ∙ ap₂ (λ (x y : ℕ). twoOf (h .before .before .args .op) x y)
-    (read-gathered (p .0) _ _ (z .before .slot .ensures) (omega arith))
-    (read-gathered (p .1) _ _ (z .slot2 .ensures) (omega arith)))
+    let a = h .before .before in
+    filled-two (twoOf (a .args .op)) (a .pre) (h .loop .inv) (omega arith) (z .before .slot .ensures) (z .slot2 .ensures) (c .two .ensures)
 
 returns : tie.Need-returns Inv-loop μ-loop
 unfolding twoLanes

@@ -5,7 +5,7 @@ use native.Mathlib.Omega.{arith}
 use lib.ListN.{length, take}
 use Rattle.numbers.specs.Numbers.{bytesOfAll}
 use Rattle.numbers.specs.Placed.{placed}
-use Rattle.keys.proofs.Behind.{put-none, put-more, put-all}
+use Rattle.numbers.proofs.Behind.{put-none, put-more, put-all}
 use borrow.Author.Needs.{needs}
 use Rattle.keys.proofs.putting.put_numbers.Statement.{statement}
 use Rattle.keys.proofs.putting.put_numbers.Tie as tie

@@ -5,14 +5,14 @@ use mathlib.Core.Logic.{⊎-elim}
 use mathlib.Core.List.{List}
 use Prim.Native.Nat.{ℕ, zero, suc}
 use native.Mathlib.Omega.{arith}
-use Rattle.ground.proofs.Bools.{split}
+use Rattle.ground.proofs.Tests.{true-or-false}
 use Rattle.compute.specs.declared.Faults.{Faults}
 use Rattle.compute.specs.Faulting.{clear}
 use Rattle.replay.specs.declared.settings.Settings.{Settings}
 use Rattle.replay.specs.declared.answers.Outcome.the-variants.{Ended, OutOfBudget, Fault}
 use Rattle.replay.specs.Machine.{Machine}
 use Rattle.replay.specs.Run.{Ran, endedOf, stepAt, runOf}
 use Rattle.replay.proofs.Runs.{at-ended, at-budget, at-fault, at-clear}
 
 pub same-faults : (f g : Faults) → Fault f ≡ Fault g → f ≡ g
 same-faults f g e = cc
@@ -37,7 +37,7 @@ module _ (s : Settings) (code : List ℕ) (f : Faults) where
   run-stops zero m =
       ⊎-elim (λ e. subst Stops (sym (at-ended s code 0 m e)) (λ z. absurd (ended-fault f z)))
       (λ e. subst Stops (sym (at-budget s code m e)) (λ z. absurd (budget-fault f z)))
-      (split (endedOf s code m))
+      (true-or-false (endedOf s code m))
   run-stops (suc b) m =
       ⊎-elim
       (λ e. subst Stops (sym (at-ended s code (suc b) m e)) (λ z. absurd (ended-fault f z)))
@@ -49,5 +49,5 @@ module _ (s : Settings) (code : List ℕ) (f : Faults) where
       (λ z.
       let y : f ≡ stepAt s code m .faults = sym (same-faults (stepAt s code m .faults) f z) in
       record { unended = e; unclear = ap clear y ∙ c; faults = y }))
-      (split (clear (stepAt s code m .faults))))
-      (split (endedOf s code m))
+      (true-or-false (clear (stepAt s code m .faults))))
+      (true-or-false (endedOf s code m))

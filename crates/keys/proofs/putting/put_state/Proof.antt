@@ -1,0 +1,91 @@
+-- The sets, the depth and the blocks stand one behind another: `state-stands`. The blocks are as many first numbers of the state's array.
+use mathlib.Core.Path.{_≡_, sym}
+use Prim.Native.Nat.{_*_}
+use native.Mathlib.Omega.{arith}
+use lib.ListN.{length, take}
+use lib.Seq.{length-take-le}
+use Rattle.wave.specs.Layout.{blockNumbers}
+use Rattle.keys.proofs.Bodies.{state-stands, state-small}
+use borrow.Author.Needs.{needs}
+use Rattle.keys.proofs.putting.put_state.Statement.{statement}
+use Rattle.keys.proofs.putting.put_state.Tie as tie
+
+whole-requires : tie.Need-whole-requires
+whole-requires c κs = search needs
+
+put-requires : tie.Need-put-requires
+put-requires c κs = search needs
+
+add-put : tie.Need-add-put
+add-put c = search needs
+
+put-requires-2 : tie.Need-put-requires-2
+put-requires-2 c κs = search needs
+
+add-put-2 : tie.Need-add-put-2
+add-put-2 c = search needs
+
+put-requires-3 : tie.Need-put-requires-3
+put-requires-3 c κs = search needs
+
+cast-open : tie.Need-cast-open
+cast-open c = search needs
+
+mul-open : tie.Need-mul-open
+mul-open c = search needs
+
+array-share-prefix-blocks : tie.Need-array-share-prefix-blocks
+array-share-prefix-blocks c = search needs
+
+-- as many numbers are lent as the open blocks have
+lent : (z : tie.After-whole)
+    → length (take (blockNumbers * z .before .before .before .before .before .args .state .hot .depth) (z .before .before .before .before .before .args .state .blocks))
+    ≡ blockNumbers * z .before .before .before .before .before .args .state .hot .depth
+lent z = length-take-le _ _ (omega (arith, z .whole .ensures, z .before .before .before .before .before .pre .0))
+
+slice-aggregate-put-numbers : tie.Need-slice-aggregate-put-numbers
+slice-aggregate-put-numbers c = sym (lent (c .before .before .before .before .before .before .before .before .before .before .before .before .before .before))
+
+add-put-numbers : tie.Need-add-put-numbers
+add-put-numbers c = search needs
+
+put-numbers-requires : tie.Need-put-numbers-requires
+put-numbers-requires c κs =
+    let w = c .before .before .before .before .before .before .before .before .before .before .before .before .before .before .before in
+    omega (arith, lent w, w .before .before .before .before .before .pre .0, w .before .before .before .before .before .pre .1)
+
+same-length : tie.Need-same-length
+same-length c = search needs
+
+returns : tie.Need-returns
+returns c =
+    let blocks = c .before .before .put-numbers .ensures in
+    let known = c .before .before .before .before .before .struct-known .given in
+    let third = c .before .before .before .before .before .before .before .before in
+    let second = third .before .before .before .before in
+    let one = second .before .before .before .before in
+    let w = one .before .before in
+    let start = w .before .before .before .before .before in
+    let s = start .args .state in (
+      state-stands s (start .pre .0) (w .whole .ensures) _ _ _ _ _ _ (one .put .ensures) (second .put2 .ensures) (third .put3 .ensures) (blocks .0),
+      state-small s (start .pre .0) (w .whole .ensures) (omega (arith, known .1 .0)) (omega (arith, known .1 .1 .0)) (blocks .1),
+    )
+
+pub put-state-spec : {M : Type 1} → statement M
+put-state-spec =
+    tie.close
+    (tie.spec
+    whole-requires
+    put-requires
+    add-put
+    put-requires-2
+    add-put-2
+    put-requires-3
+    cast-open
+    mul-open
+    array-share-prefix-blocks
+    slice-aggregate-put-numbers
+    add-put-numbers
+    put-numbers-requires
+    same-length
+    returns)
