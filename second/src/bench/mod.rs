@@ -11,13 +11,13 @@ use std::time::{Duration, Instant};
 use crate::capture::Capture;
 use crate::commands::{Done, say, write_file};
 use crate::run::Answer;
-use kernels::{KERNELS, WIDTHS};
+use kernels::{KERNELS, Kernel, WIDTHS};
 use program::Program;
 
-/// How long one timing runs at least. Many short ones find the shortest on a machine that has other work.
-const LONG_ENOUGH: Duration = Duration::from_millis(30);
-/// How often each is timed, in turn; the shortest times count.
-const ROUNDS: usize = 25;
+/// How long one timing of the straightforward interpreter runs at least.
+const LONG_ENOUGH: Duration = Duration::from_millis(10);
+/// How often each is timed; the shortest times count.
+const ROUNDS: usize = 60;
 /// The steps of the run whose results are compared.
 const COMPARED: u32 = 10_000;
 
@@ -37,18 +37,11 @@ fn straightforward(capture: &mut Capture) -> Answer {
 /// Compares the interpreters' results on each kernel and width, then prints nanoseconds per step.
 pub fn bench() -> Done {
     compare_all(None)?;
-    say(&heading(
-        &["kernel", "W", INTERPRETERS[0].0, INTERPRETERS[1].0],
-        2,
-    ))?;
-    for kernel in &KERNELS {
-        for width in WIDTHS {
-            let [simple, decoded] = interpreter_times(&kernel.capture(width, 0)?)?;
-            say(&format!(
-                "| {} | {width} | {simple:.1} | {decoded:.1} |\n",
-                kernel.name
-            ))?;
-        }
+    let [(simple, _), (decoded, _)] = INTERPRETERS;
+    say(&heading(&["kernel", "W", simple, decoded]))?;
+    for row in timed(None)? {
+        let [_, simple, decoded] = row.per_step();
+        say(&format!("{} {simple:.1} | {decoded:.1} |\n", row.start()))?;
     }
     Ok(())
 }
@@ -58,30 +51,29 @@ pub fn against(way: &str, words: &[&str]) -> Done {
     let program = Program::new(way, words)?;
     compare_all(Some(&program))?;
     let [(simple, _), (decoded, _)] = INTERPRETERS;
-    let columns = ["kernel", "W", "proved", simple, decoded];
-    let ratios = [simple, decoded].map(|name| format!("proved / {name}"));
-    let columns = [&columns[..], &[&ratios[0], &ratios[1]]].concat();
-    say(&heading(&columns, 5))?;
-    for kernel in &KERNELS {
-        for width in WIDTHS {
-            let [proved, simple, decoded] = all_times(&program, &kernel.capture(width, 0)?)?;
-            let (one, other) = (proved / simple, proved / decoded);
-            say(&format!(
-                "| {} | {width} | {proved:.1} | {simple:.1} | {decoded:.1} | {one:.2} | {other:.2} |\n",
-                kernel.name
-            ))?;
-        }
+    let [one, other] = [simple, decoded].map(|name| format!("proved / {name}"));
+    say(&heading(&[
+        "kernel", "W", "proved", simple, decoded, &one, &other,
+    ]))?;
+    for row in timed(Some(&program))? {
+        let [proved, simple, decoded] = row.per_step();
+        let times = format!("{proved:.1} | {simple:.1} | {decoded:.1}");
+        let (one, other) = (proved / simple, proved / decoded);
+        say(&format!(
+            "{} {times} | {one:.2} | {other:.2} |\n",
+            row.start()
+        ))?;
     }
     Ok(())
 }
 
-/// The machine, and the table's heading with so many columns of times.
-fn heading(columns: &[&str], numbers: usize) -> String {
-    let rule = "---|".to_string() + &"---:|".repeat(numbers + 1);
+/// The machine, and the table's heading.
+fn heading(columns: &[&str]) -> String {
+    let rule = "---|".to_string() + &"---:|".repeat(columns.len() - 1);
+    let columns = columns.join(" | ");
     format!(
-        "Nanoseconds per step on {}.\n\n| {} |\n|{rule}\n",
-        machine(),
-        columns.join(" | ")
+        "Nanoseconds per step on {}.\n\n| {columns} |\n|{rule}\n",
+        machine()
     )
 }
 
@@ -126,20 +118,33 @@ fn compare(capture: &Capture, name: &str) -> Done {
     }
 }
 
-/// The capture with this budget.
-fn budgeted(capture: &Capture, budget: u32) -> Capture {
-    let mut other = capture.clone();
-    other.settings.budget = budget;
-    other
+/// A kernel at a width, and the shortest times that were found for it.
+struct Row {
+    kernel: &'static str,
+    steps: u32,
+    /// The capture with a budget of so many steps, and with none.
+    long: Capture,
+    none: Capture,
+    /// The program's time for each.
+    program: [Duration; 2],
+    /// The interpreters' times for the first.
+    interpreters: [Duration; 2],
 }
 
-/// So many steps that something takes long enough for them.
-fn enough(mut timed: impl FnMut(u32) -> Result<Duration, String>) -> Result<u32, String> {
-    let mut steps = 100_000;
-    while timed(steps)? < LONG_ENOUGH {
-        steps *= 2;
+/// Every kernel at every width, timed in turn, so that other work of the machine falls on all alike.
+fn timed(program: Option<&Program>) -> Result<Vec<Row>, String> {
+    let mut rows = Vec::new();
+    for kernel in &KERNELS {
+        for width in WIDTHS {
+            rows.push(Row::new(kernel, width)?);
+        }
     }
-    Ok(steps)
+    for _ in 0..ROUNDS {
+        for row in &mut rows {
+            row.time(program)?;
+        }
+    }
+    Ok(rows)
 }
 
 /// How long an interpreter takes with a capture.
@@ -150,47 +155,48 @@ fn time(capture: &Capture, interpreter: Interpreter) -> Duration {
     start.elapsed()
 }
 
-/// The nanoseconds of one of so many steps.
-fn per_step(time: Duration, steps: u32) -> f64 {
-    time.as_nanos() as f64 / f64::from(steps)
-}
-
-/// Shortens the interpreters' times by another timing of each.
-fn shorten(shortest: &mut [Duration; 2], capture: &Capture) {
-    for (best, (_, interpreter)) in shortest.iter_mut().zip(INTERPRETERS) {
-        *best = time(capture, interpreter).min(*best);
+impl Row {
+    /// With so many steps that the straightforward interpreter takes long enough.
+    fn new(kernel: &Kernel, width: u32) -> Result<Row, String> {
+        let mut steps = 100_000;
+        let mut long = kernel.capture(width, steps)?;
+        while time(&long, straightforward) < LONG_ENOUGH {
+            steps *= 2;
+            long.settings.budget = steps;
+        }
+        Ok(Row {
+            kernel: kernel.name,
+            steps,
+            long,
+            none: kernel.capture(width, 0)?,
+            program: [Duration::MAX; 2],
+            interpreters: [Duration::MAX; 2],
+        })
     }
-}
 
-/// The interpreters' nanoseconds per step.
-fn interpreter_times(capture: &Capture) -> Result<[f64; 2], String> {
-    let steps = enough(|steps| Ok(time(&budgeted(capture, steps), straightforward)))?;
-    let long = budgeted(capture, steps);
-    let mut shortest = [Duration::MAX; 2];
-    for _ in 0..ROUNDS {
-        shorten(&mut shortest, &long);
+    /// Times each once more.
+    fn time(&mut self, program: Option<&Program>) -> Done {
+        if let Some(program) = program {
+            self.program[0] = program.time(&self.long)?.min(self.program[0]);
+            self.program[1] = program.time(&self.none)?.min(self.program[1]);
+        }
+        for (best, (_, interpreter)) in self.interpreters.iter_mut().zip(INTERPRETERS) {
+            *best = time(&self.long, interpreter).min(*best);
+        }
+        Ok(())
     }
-    Ok(shortest.map(|time| per_step(time, steps)))
-}
 
-/// The nanoseconds per step of the program and of the interpreters, for the same steps. The program's are
-/// its shortest time less its shortest for no step.
-fn all_times(program: &Program, capture: &Capture) -> Result<[f64; 3], String> {
-    let steps = enough(|steps| program.time(&budgeted(capture, steps)))?;
-    let [long, none] = [steps, 0].map(|budget| budgeted(capture, budget));
-    let (mut whole, mut start) = (Duration::MAX, Duration::MAX);
-    let mut shortest = [Duration::MAX; 2];
-    for _ in 0..ROUNDS {
-        whole = program.time(&long)?.min(whole);
-        start = program.time(&none)?.min(start);
-        shorten(&mut shortest, &long);
+    /// The nanoseconds of a step: of the program, whose start is taken off, and of the interpreters.
+    fn per_step(&self) -> [f64; 3] {
+        let [simple, decoded] = self.interpreters;
+        let program = self.program[0].saturating_sub(self.program[1]);
+        [program, simple, decoded].map(|time| time.as_nanos() as f64 / f64::from(self.steps))
     }
-    let [simple, decoded] = shortest.map(|time| per_step(time, steps));
-    Ok([
-        per_step(whole.saturating_sub(start), steps),
-        simple,
-        decoded,
-    ])
+
+    /// The first columns of its line.
+    fn start(&self) -> String {
+        format!("| {} | {} |", self.kernel, self.long.settings.width)
+    }
 }
 
 /// Writes each kernel's capture for each width into a folder, as NAME-WIDTH.cap, with this budget.

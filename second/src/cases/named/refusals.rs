@@ -202,13 +202,16 @@ const INSIDE: &str = "
     ENDLOOP
 ";
 
+/// What is done to a state so that it doesn't fit.
+type Change = fn(&mut State);
+
 /// A state that fits it: lane 0 is active, 1 waits, 2 has broken.
 fn fitting() -> State {
     state(4, 1, 0, &[[3, 2, 7, 4, 0, 0], [1, 3, 3, 2, 0, 0]])
 }
 
 fn misfits() -> Vec<Named> {
-    let changes: [(&str, fn(&mut State)); 17] = [
+    let changes: [(&str, Change); 17] = [
         ("the place of a second word", |s| s.place = 1),
         ("a place past the end", |s| s.place = 11),
         ("the end with blocks open", |s| s.place = 10),

@@ -82,8 +82,9 @@ fn between(line: &str) -> Between {
         .map(|word| word.parse().expect("a number"));
     let numbers: Vec<u32> = numbers.collect();
     let (first, blocks) = numbers.split_at(10);
-    let (blocks, _) = blocks.as_chunks();
-    let mut state = state(first[0], first[1], first[2], blocks);
+    let six = |numbers: &[u32]| numbers.try_into().expect("six numbers");
+    let blocks: Vec<[u32; 6]> = blocks.chunks(6).map(six).collect();
+    let mut state = state(first[0], first[1], first[2], &blocks);
     state.predicates.copy_from_slice(&first[3..6]);
     Between {
         state,
