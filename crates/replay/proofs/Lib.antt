@@ -4,6 +4,7 @@ pub mod Keeping
 pub mod Stopping
 pub mod FaultKinds
 pub mod Returns
+pub mod Refusing
 pub mod Stepping
 pub mod Entering
 pub mod OneAnswer
