@@ -5,7 +5,7 @@ use mathlib.Core.Logic.{_↔_, ⊎-elim}
 use mathlib.Core.List.{List}
 use Prim.Native.Nat.{ℕ, zero, suc}
 use native.Mathlib.Omega.{arith}
-use Rattle.ground.proofs.Bools.{split}
+use Rattle.ground.proofs.Tests.{true-or-false}
 use Rattle.blocks.specs.declared.structure.Checked.{Checked}
 use Rattle.wave.specs.declared.state.State.{State}
 use Rattle.wave.specs.FitsTest.{fitsTest}
@@ -34,15 +34,15 @@ module _ (number place : ℕ) where
   run-unrefused s code zero m =
       ⊎-elim (λ e. subst Unrefused (sym (at-ended s code 0 m e)) (λ z. other-outcome cc))
       (λ e. subst Unrefused (sym (at-budget s code m e)) (λ z. other-outcome cc))
-      (split (endedOf s code m))
+      (true-or-false (endedOf s code m))
   run-unrefused s code (suc b) m =
       ⊎-elim
       (λ e. subst Unrefused (sym (at-ended s code (suc b) m e)) (λ z. other-outcome cc))
       (λ e.
       ⊎-elim (λ c. subst Unrefused (sym (at-clear s code b m e c)) (run-unrefused s code b (stepAt s code m .end)))
       (λ c. subst Unrefused (sym (at-fault s code b m e c)) (λ z. other-outcome cc))
-      (split (clear (stepAt s code m .faults))))
-      (split (endedOf s code m))
+      (true-or-false (clear (stepAt s code m .faults))))
+      (true-or-false (endedOf s code m))
 
   by-test : (v : Checked) (f : Unit {0} → Answered) (state : State) (regs : List ℕ) (y : Memories) → (f tt .outcome ≡ Refused number place → ⊥)
       → (byTest v f state regs y .outcome ≡ Refused number place) ↔ (v ≡ Checked.Refused number place)
