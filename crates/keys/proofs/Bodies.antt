@@ -13,8 +13,7 @@ use Rattle.numbers.specs.Placed.{placed}
 use Rattle.numbers.proofs.Numerals.{small-cons, small-append}
 use Rattle.numbers.proofs.Placing.{placed-front}
 use Rattle.numbers.proofs.Behind.{behind, behind-one}
-use Rattle.key.specs.declared.BodyAnswer.the-variants.{Length}
-use Rattle.key.specs.declared.BodyAnswer.the-variants.{Refused as NoBody}
+use Rattle.key.specs.declared.BodyAnswer.the-variants.{Length, Refused as NoBody}
 use Rattle.key.specs.Body.{Parts, numbersOf, bytesOfBody}
 use Rattle.key.specs.Layout.{fitsLayout, mostDepth, sizeAt, startsBody, bodyAnswer, short, notOfLayout}
 use Rattle.key.proofs.Starts.{fits-of, of-starts, length-says, refused-says}

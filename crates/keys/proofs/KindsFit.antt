@@ -1,7 +1,7 @@
 -- The kinds of a fault that a step gives are of the layout: they are one of the page's lists, no lane set is empty and none overlap.
 use mathlib.Core.Path.{_≡_, refl, sym, ap, _∙_}
 use mathlib.Core.Bool.{Bool, true, false}
-use mathlib.Core.List.{[], _∷_}
+use mathlib.Core.List.{[], _∷_, map}
 use Prim.Native.Nat.{ℕ}
 use borrow.Author.Tests.{eq-eqb}
 use lib.Bits.{bitAnd}
@@ -9,12 +9,11 @@ use lib.Dec.{eqb}
 use Rattle.ground.specs.Tests.{sameList, oneOf, allOf}
 use Rattle.ground.proofs.Bools.{never}
 use Rattle.compute.specs.declared.Faults.{Faults}
-use Rattle.compute.specs.Faulting.{faults, clear}
+use Rattle.compute.specs.Faulting.{clear, note}
 use Rattle.compute.proofs.FaultLanes.{at-device, at-local, dividing}
-use Rattle.replay.specs.Step.{noFaults, withBarrier}
-use Rattle.key.specs.Layout.{apart, kindLists, faultsFit}
-use Rattle.keys.specs.Key.{kindsOf}
 use Rattle.replay.proofs.FaultKinds.{Faulty, at-work, at-barrier}
+use Rattle.key.specs.Layout.{apart, kindLists, faultsFit}
+use Rattle.keys.specs.Key.{faultOf, kindsOf}
 
 -- one kind with lanes, and kind 1 with another
 one-fits : (k a : ℕ) → oneOf (k ∷ []) kindLists ≡ true → eqb a 0 ≡ false → faultsFit (record { kind = k; lanes = a } ∷ []) ≡ true
@@ -26,34 +25,29 @@ two-fit : (k a b : ℕ) → oneOf (1 ∷ k ∷ []) kindLists ≡ true → eqb a 
 unfolding faultsFit apart allOf
 two-fit k a b o e f d = rw (o, e, f, d)
 
-device-fit : (a b : ℕ) (p q : Bool) → eqb a 0 ≡ p → eqb b 0 ≡ q → eqb (bitAnd a b) 0 ≡ true → clear (faults a b 0 0) ≡ false → faultsFit (kindsOf (faults a b 0 0)) ≡ true
-unfolding kindsOf kindLists oneOf sameList
-device-fit a b true true e f d c = never (sym c ∙ rw (e, f))
-device-fit a b true false e f d c = rw (e, f) (one-fits 2 b refl f)
-device-fit a b false true e f d c = rw (e, f) (one-fits 1 a refl e)
-device-fit a b false false e f d c = rw (e, f) (two-fit 2 a b refl e f d)
+-- kind 1, another kind, or both: one of them has lanes
+pair-fits : (k a b : ℕ) (p q : Bool) → eqb a 0 ≡ p → eqb b 0 ≡ q → oneOf (k ∷ []) kindLists ≡ true → oneOf (1 ∷ k ∷ []) kindLists ≡ true
+    → eqb (bitAnd a b) 0 ≡ true → (p ≡ true → q ≡ true → ⊥) → faultsFit (map faultOf (note 1 a (note k b []))) ≡ true
+unfolding kindLists oneOf sameList
+pair-fits k a b true true e f o t d n = absurd (n refl refl)
+pair-fits k a b true false e f o t d n = rw (e, f) (one-fits k b o f)
+pair-fits k a b false true e f o t d n = rw (e, f) (one-fits 1 a refl e)
+pair-fits k a b false false e f o t d n = rw (e, f) (two-fit k a b t e f d)
 
-local-fit : (a b : ℕ) (p q : Bool) → eqb a 0 ≡ p → eqb b 0 ≡ q → eqb (bitAnd a b) 0 ≡ true → clear (faults a 0 b 0) ≡ false → faultsFit (kindsOf (faults a 0 b 0)) ≡ true
-unfolding kindsOf kindLists oneOf sameList
-local-fit a b true true e f d c = never (sym c ∙ rw (e, f))
-local-fit a b true false e f d c = rw (e, f) (one-fits 3 b refl f)
-local-fit a b false true e f d c = rw (e, f) (one-fits 1 a refl e)
-local-fit a b false false e f d c = rw (e, f) (two-fit 3 a b refl e f d)
-
-divisor-fit : (a : ℕ) (p : Bool) → eqb a 0 ≡ p → clear (faults 0 0 0 a) ≡ false → faultsFit (kindsOf (faults 0 0 0 a)) ≡ true
-unfolding kindsOf kindLists oneOf sameList
-divisor-fit a true e c = never (sym c ∙ rw e)
-divisor-fit a false e c = rw e (one-fits 4 a refl e)
-
-barrier-fit : (a : ℕ) (p : Bool) → eqb a 0 ≡ p → clear (withBarrier a noFaults) ≡ false → faultsFit (kindsOf (withBarrier a noFaults)) ≡ true
-unfolding kindsOf kindLists oneOf sameList
-barrier-fit a true e c = never (sym c ∙ rw e)
-barrier-fit a false e c = rw e (one-fits 5 a refl e)
+-- one kind alone, which has lanes
+lone-fits : (k a : ℕ) (p : Bool) → eqb a 0 ≡ p → oneOf (k ∷ []) kindLists ≡ true → (p ≡ true → ⊥) → faultsFit (map faultOf (note k a [])) ≡ true
+lone-fits k a true e o n = absurd (n refl)
+lone-fits k a false e o n = rw e (one-fits k a o e)
 
 pub kinds-fit : (f : Faults) → Faulty f → clear f ≡ false → faultsFit (kindsOf f) ≡ true
+unfolding kindsOf kindLists oneOf sameList
 kinds-fit f (at-work (at-device a b d e)) c =
-    ap (λ (g : Faults). faultsFit (kindsOf g)) e ∙ device-fit a b (eqb a 0) (eqb b 0) refl refl (eq-eqb (bitAnd a b) 0 d) (ap clear (sym e) ∙ c)
+    ap (λ (g : Faults). faultsFit (kindsOf g)) e
+    ∙ pair-fits 2 a b (eqb a 0) (eqb b 0) refl refl refl refl (eq-eqb (bitAnd a b) 0 d) (λ x y. never (sym c ∙ ap clear e ∙ rw (x, y)))
 kinds-fit f (at-work (at-local a b d e)) c =
-    ap (λ (g : Faults). faultsFit (kindsOf g)) e ∙ local-fit a b (eqb a 0) (eqb b 0) refl refl (eq-eqb (bitAnd a b) 0 d) (ap clear (sym e) ∙ c)
-kinds-fit f (at-work (dividing a e)) c = ap (λ (g : Faults). faultsFit (kindsOf g)) e ∙ divisor-fit a (eqb a 0) refl (ap clear (sym e) ∙ c)
-kinds-fit f (at-barrier a e) c = ap (λ (g : Faults). faultsFit (kindsOf g)) e ∙ barrier-fit a (eqb a 0) refl (ap clear (sym e) ∙ c)
+    ap (λ (g : Faults). faultsFit (kindsOf g)) e
+    ∙ pair-fits 3 a b (eqb a 0) (eqb b 0) refl refl refl refl (eq-eqb (bitAnd a b) 0 d) (λ x y. never (sym c ∙ ap clear e ∙ rw (x, y)))
+kinds-fit f (at-work (dividing a e)) c =
+    ap (λ (g : Faults). faultsFit (kindsOf g)) e ∙ lone-fits 4 a (eqb a 0) refl refl (λ x. never (sym c ∙ ap clear e ∙ rw x))
+kinds-fit f (at-barrier a e) c =
+    ap (λ (g : Faults). faultsFit (kindsOf g)) e ∙ lone-fits 5 a (eqb a 0) refl refl (λ x. never (sym c ∙ ap clear e ∙ rw x))

@@ -4,5 +4,6 @@ pub mod BlocksFit
 pub mod Telling
 pub mod Paths
 pub mod Bodies
+pub mod Faulting
 pub mod Theorems
 pub mod OneAnswer

@@ -8,13 +8,11 @@ use native.Mathlib.Nat.{zero-add}
 use native.Mathlib.Omega.{arith}
 use borrow.Author.Tests.{eqb-true}
 use lib.Dec.{eqb}
+use Rattle.wave.specs.declared.state.Block.{Block}
 use Rattle.compute.specs.declared.Faults.{Faults}
 use Rattle.compute.specs.Faulting.{Fault, note}
-use Rattle.key.specs.Body.{Fault as Said}
-use Rattle.keys.specs.Key.{faultOf, kindsOf}
-use Rattle.wave.specs.declared.state.Block.{Block}
-use Rattle.key.specs.Body.{Block as SaidBlock}
-use Rattle.keys.specs.Key.{blockOf}
+use Rattle.key.specs.Body.{Fault as Said, Block as SaidBlock}
+use Rattle.keys.specs.Key.{faultOf, blockOf, kindsOf}
 
 -- ---- a fault by its kinds
 

@@ -65,16 +65,34 @@ get-requires-3 : tie.Need-get-requires-3
 get-requires-3 c κs = search needs
 
 returns-2 : tie.Need-returns-2
-returns-2 c = answer-unfit _ _ _ _ _ _ _ (whole (c .before .before .before .before .before)) (c .before .before .before .before .get .ensures) (c .before .before .before .get2 .ensures) (c .before .get3 .ensures) (c .before .before .faults-fit .ensures) (not-true _ (c .if2 .taken))
+returns-2 c =
+    let place = c .before in
+    let kinds = place .before in
+    let depth = kinds .before in
+    let count = depth .before in
+    answer-unfit _ _ _ _ _ _ _ (whole (count .before)) (count .get .ensures) (depth .get2 .ensures) (place .get3 .ensures)
+    (kinds .faults-fit .ensures) (not-true _ (c .if2 .taken))
 
 blocks-fit-requires : tie.Need-blocks-fit-requires
 blocks-fit-requires c κs = last-test ((c .before .before .faults-fit .result && leb (c .before .get3 .result) lastPlace) && leb (c .before .before .before .get2 .result) mostDepth) _ _ (not-false _ (c .if2 .left))
 
 returns-3 : tie.Need-returns-3
-returns-3 c = answer-blocks _ _ _ _ _ _ _ (whole (c .before .before .before .before .before .before .before)) (c .before .before .before .before .before .before .get .ensures) (c .before .before .before .before .before .get2 .ensures) (c .before .before .before .get3 .ensures) (c .before .before .before .before .faults-fit .ensures) _ (c .before .blocks-fit .ensures) (not-false _ (c .before .before .if2 .left)) (not-true _ (c .if3 .taken))
+returns-3 c =
+    let place = c .before .before .before in
+    let kinds = place .before in
+    let depth = kinds .before in
+    let count = depth .before in
+    answer-blocks _ _ _ _ _ _ _ (whole (count .before)) (count .get .ensures) (depth .get2 .ensures) (place .get3 .ensures)
+    (kinds .faults-fit .ensures) _ (c .before .blocks-fit .ensures) (not-false _ (c .before .before .if2 .left)) (not-true _ (c .if3 .taken))
 
 returns-4 : tie.Need-returns-4
-returns-4 c = answer-body _ _ _ _ _ _ _ (whole (c .before .before .before .before .before .before .before)) (c .before .before .before .before .before .before .get .ensures) (c .before .before .before .before .before .get2 .ensures) (c .before .before .before .get3 .ensures) (c .before .before .before .before .faults-fit .ensures) _ (c .before .blocks-fit .ensures) (not-false _ (c .before .before .if2 .left)) (not-false _ (c .if3 .left))
+returns-4 c =
+    let place = c .before .before .before in
+    let kinds = place .before in
+    let depth = kinds .before in
+    let count = depth .before in
+    answer-body _ _ _ _ _ _ _ (whole (count .before)) (count .get .ensures) (depth .get2 .ensures) (place .get3 .ensures)
+    (kinds .faults-fit .ensures) _ (c .before .blocks-fit .ensures) (not-false _ (c .before .before .if2 .left)) (not-false _ (c .if3 .left))
 
 pub body-length-spec : {M : Type 1} → statement M
 body-length-spec =

@@ -38,9 +38,13 @@ same-length-4 : tie.Need-same-length-4
 same-length-4 c = search needs
 
 returns-2 : tie.Need-returns-2
-returns-2 c = let a = c .before .before .before .before .before .before .before .before .before .before .before .before .before .before .before .before .before .before .args in
+returns-2 c =
+    let ran = c .before .before .before .before .before .before in
+    let fine = ran .before .before .before .before in
+    let tested = fine .before .before in
+    let a = tested .before .before .before .before .before .before .args in
     go-on-ran (a .settings) (a .code .now) (a .regs .now) (a .device .now) (a .local .now) _ (a .state) _ _ _
-    (sym (c .before .before .before .before .before .before .before .before .before .before .before .before .test-bounds .ensures) ∙ c .before .before .before .before .before .before .before .before .before .before .enum-told .given .1) (c .before .before .before .before .before .before .run-from .ensures)
+    (sym (tested .test-bounds .ensures) ∙ fine .enum-told .given .1) (ran .run-from .ensures)
 
 pub go-on-spec : {M : Type 1} → statement M
 go-on-spec =

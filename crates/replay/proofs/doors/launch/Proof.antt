@@ -47,9 +47,15 @@ same-length-4 : tie.Need-same-length-4
 same-length-4 c = search needs
 
 returns-2 : tie.Need-returns-2
-returns-2 c = let a = c .before .before .before .before .before .before .before .before .before .before .before .before .before .before .before .before .before .before .before .before .before .before .before .args in
+returns-2 c =
+    let ran = c .before .before .before .before .before .before in
+    let made = ran .before .before .before .before in
+    let zeroed = made .before .before .before in
+    let fine = zeroed .before .before in
+    let tested = fine .before .before in
+    let a = tested .before .before .before .before .before .before .args in
     launch-ran (a .settings) (a .code .now) (a .regs .now) (a .device .now) (a .local .now) _ _ _ _ _ _
-    (sym (c .before .before .before .before .before .before .before .before .before .before .before .before .before .before .before .before .before .test-launch .ensures) ∙ c .before .before .before .before .before .before .before .before .before .before .before .before .before .before .before .enum-told .given .1) (c .before .before .before .before .before .before .before .before .before .before .before .before .before .fill-with .ensures) (c .before .before .before .before .before .before .before .before .before .before .launched .ensures) (c .before .before .before .before .before .before .run-from .ensures)
+    (sym (tested .test-launch .ensures) ∙ fine .enum-told .given .1) (zeroed .fill-with .ensures) (made .launched .ensures) (ran .run-from .ensures)
 
 pub launch-spec : {M : Type 1} → statement M
 launch-spec =

@@ -62,30 +62,46 @@ is-clear-requires : tie.Need-is-clear-requires Inv-loop μ-loop
 is-clear-requires c κs = search needs
 
 same-length-7 : tie.Need-same-length-7 Inv-loop μ-loop
-same-length-7 c = c .before .before .before .before .before .before .before .before .before .regs .given ∙ c .before .before .before .before .before .before .before .before .before .before .before .before .before .before .before .before .before .before .before .before .before .loop .inv .1 .0
+same-length-7 c = let made = c .before .before .before .before .before .before .before .before .before in made .regs .given ∙ made .before .before .before .before .before .before .before .before .before .before .before .before .loop .inv .1 .0
 
 same-length-8 : tie.Need-same-length-8 Inv-loop μ-loop
-same-length-8 c = c .before .before .before .before .before .before .before .device .given ∙ c .before .before .before .before .before .before .before .before .before .before .before .before .before .before .before .before .before .before .before .before .before .loop .inv .1 .1 .0
+same-length-8 c = let made = c .before .before .before .before .before .before .before in made .device .given ∙ made .before .before .before .before .before .before .before .before .before .before .before .before .before .before .loop .inv .1 .1 .0
 
 same-length-9 : tie.Need-same-length-9 Inv-loop μ-loop
-same-length-9 c = c .before .before .before .before .before .local .given ∙ c .before .before .before .before .before .before .before .before .before .before .before .before .before .before .before .before .before .before .before .before .before .loop .inv .1 .1 .1
+same-length-9 c = let made = c .before .before .before .before .before in made .local .given ∙ made .before .before .before .before .before .before .before .before .before .before .before .before .before .before .before .before .loop .inv .1 .1 .1
 
 returns-3 : tie.Need-returns-3 Inv-loop μ-loop
-returns-3 c = faulted _ _ _ _ _ _ (c .before .before .before .before .before .before .before .before .before .before .before .before .before .before .before .before .before .before .before .before .before .loop .inv .0) (sym (c .before .before .before .before .before .before .before .before .before .before .before .before .before .before .before .before .before .before .before .before .has-ended .ensures) ∙ c .before .before .before .before .before .before .before .before .before .before .before .before .before .before .before .before .before .before .before .if1 .left) (c .before .before .before .before .before .before .before .before .before .before .before .before .before .before .before .before .before .if2 .left) _
-    (stepped-at _ _ _ _ _ (c .before .before .before .before .before .before .before .before .before .before .before .before .before .before .before .instr-at .ensures) (c .before .before .before .before .before .before .before .before .before .before .step .ensures)) (sym (c .before .is-clear .ensures) ∙ not-true _ (c .if3 .taken))
+returns-3 c =
+    let made = c .before .before .before .before .before .before .before .before .before .before in
+    let read = made .before .before .before .before .before in
+    let left = read .before .before in
+    let on = left .before .before .before in
+    let turn = on .before .loop in
+    faulted _ _ _ _ _ _ (turn .inv .0) (sym (on .has-ended .ensures) ∙ left .before .before .if1 .left) (left .if2 .left) _
+    (stepped-at _ _ _ _ _ (read .instr-at .ensures) (made .step .ensures)) (sym (c .before .is-clear .ensures) ∙ not-true _ (c .if3 .taken))
 
 add-steps : tie.Need-add-steps Inv-loop μ-loop
-add-steps c = omega (arith, c .before .before .before .before .before .before .before .before .before .before .before .before .before .before .before .before .before .before .before .before .before .loop .inv .0 .fewer, c .before .before .before .before .before .before .before .before .before .before .before .before .before .before .before .before .before .if2 .left, c .before .before .before .before .before .before .before .before .before .before .before .before .before .before .before .before .before .before .struct-known .given .1 .1 .1 .0)
+add-steps c =
+    let left = c .before .before .before .before .before .before .before .before .before .before .before .before .before .before .before .before .before in
+    omega (arith, left .before .before .before .before .loop .inv .0 .fewer, left .if2 .left, left .before .struct-known .given .1 .1 .1 .0)
 
 loop-less : tie.Need-loop-less Inv-loop μ-loop
-loop-less c = omega (arith, c .before .before .before .before .before .before .before .before .before .before .before .before .before .before .before .before .before .before .before .before .before .loop .inv .0 .fewer, c .before .before .before .before .before .before .before .before .before .before .before .before .before .before .before .before .before .if2 .left)
+loop-less c =
+    let left = c .before .before .before .before .before .before .before .before .before .before .before .before .before .before .before .before .before in
+    omega (arith, left .before .before .before .before .loop .inv .0 .fewer, left .if2 .left)
 
 loop-again : tie.Need-loop-again Inv-loop μ-loop
-loop-again c = (
-  goes _ _ _ _ _ _ (c .before .before .before .before .before .before .before .before .before .before .before .before .before .before .before .before .before .before .before .before .before .loop .inv .0) (sym (c .before .before .before .before .before .before .before .before .before .before .before .before .before .before .before .before .before .before .before .before .has-ended .ensures) ∙ c .before .before .before .before .before .before .before .before .before .before .before .before .before .before .before .before .before .before .before .if1 .left) (c .before .before .before .before .before .before .before .before .before .before .before .before .before .before .before .before .before .if2 .left) _
-      (stepped-at _ _ _ _ _ (c .before .before .before .before .before .before .before .before .before .before .before .before .before .before .before .instr-at .ensures) (c .before .before .before .before .before .before .before .before .before .before .step .ensures)) (sym (c .before .is-clear .ensures) ∙ not-false _ (c .if3 .left)),
-  (c .before .before .before .before .before .before .before .before .before .regs .given ∙ c .before .before .before .before .before .before .before .before .before .before .before .before .before .before .before .before .before .before .before .before .before .loop .inv .1 .0, (c .before .before .before .before .before .before .before .device .given ∙ c .before .before .before .before .before .before .before .before .before .before .before .before .before .before .before .before .before .before .before .before .before .loop .inv .1 .1 .0, c .before .before .before .before .before .local .given ∙ c .before .before .before .before .before .before .before .before .before .before .before .before .before .before .before .before .before .before .before .before .before .loop .inv .1 .1 .1)),
-)
+loop-again c =
+    let made = c .before .before .before .before .before .before .before .before .before .before in
+    let read = made .before .before .before .before .before in
+    let left = read .before .before in
+    let on = left .before .before .before in
+    let turn = on .before .loop in
+    let kept = turn .inv .1 in (
+      goes _ _ _ _ _ _ (turn .inv .0) (sym (on .has-ended .ensures) ∙ left .before .before .if1 .left) (left .if2 .left) _
+          (stepped-at _ _ _ _ _ (read .instr-at .ensures) (made .step .ensures)) (sym (c .before .is-clear .ensures) ∙ not-false _ (c .if3 .left)),
+      (c .before .before .before .before .before .before .before .before .before .regs .given ∙ kept .0, (c .before .before .before .before .before .before .before .device .given ∙ kept .1 .0, c .before .before .before .before .before .local .given ∙ kept .1 .1)),
+    )
 
 pub go-spec : {M : Type 1} → statement M
 go-spec =
