@@ -2,14 +2,15 @@
 use libc::STDERR_FILENO;
 use replay::answers::Outcome;
 use replay::answers::Replayed;
-use replay::doors::go_on;
 use replay::doors::launch;
 use replay::doors::resume;
 use replay::settings::Settings;
-use std::num::wrapping_add_u32;
 use wave::state::State;
 ghost use mathlib.Core.Path.{_≡_};
-ghost use Prim.Native.Nat.{min};
+ghost use Prim.Native.Nat.{_+_, _≤_, min};
+ghost use Rattle.replay.specs.Replay.{mostSteps, answered, resumeOf};
+ghost use Rattle.replay.specs.Calls.{budgeted as withBudget, added};
+ghost use Rattle.replay_capture.specs.Starting.{startOf, stopped, slice};
 
 // The steps of a slice: a second or two.
 const SLICE: u32 = 20_000_000;
@@ -18,7 +19,9 @@ const SLICE: u32 = 20_000_000;
 const MOST_STEPS: u32 = 1_000_000_000;
 
 // Whether a run stopped because its budget was spent.
-fn is_stopped(outcome: Outcome) -> bool {
+fn is_stopped(outcome: Outcome) -> bool
+    ensures { λ r. ⌜ r ≡ stopped outcome ⌝ }
+{
     match outcome {
         Outcome::Ended => false,
         Outcome::OutOfBudget => true,
@@ -29,13 +32,15 @@ fn is_stopped(outcome: Outcome) -> bool {
 
 // The first of so many steps.
 fn slice_of(left: u32) -> u32
-    ensures { λ r. ⌜ r ≡ min left 20000000 ⌝ }
+    ensures { λ r. ⌜ r ≡ min left slice ⌝ }
 {
     if left < SLICE { left } else { SLICE }
 }
 
 // The same settings with another budget.
-fn budgeted(settings: Settings, budget: u32) -> Settings {
+fn budgeted(settings: Settings, budget: u32) -> Settings
+    ensures { λ r. ⌜ r ≡ withBudget budget settings ⌝ }
+{
     Settings {
         width: settings.width,
         registers: settings.registers,
@@ -62,12 +67,37 @@ fn start(
     regs: &mut [u32],
     device: &mut [u32],
     local: &mut [u32],
-) -> Replayed {
+) -> Replayed
+    ensures { λ r. ⌜
+        answered r (now (regs .exit)) (now (device .exit)) (now (local .exit))
+        ≡ startOf launched settings state (now (code .entry)) (now (regs .entry)) (now (device .entry)) (now (local .entry)) ⌝ }
+{
     if launched {
         launch(settings, code, regs, device, local)
     } else {
         resume(settings, state, code, regs, device, local)
     }
+}
+
+// Goes on from what was answered before, and counts the steps of both.
+fn go_further(
+    settings: Settings,
+    before: Replayed,
+    code: &[u32],
+    regs: &mut [u32],
+    device: &mut [u32],
+    local: &mut [u32],
+) -> Replayed
+    requires { ⌜ before .steps + settings .budget ≤ mostSteps ⌝ }
+    ensures { λ r. ⌜
+        answered r (now (regs .exit)) (now (device .exit)) (now (local .exit))
+        ≡ added (before .steps)
+        (resumeOf settings (before .state) (now (code .entry)) (now (regs .entry)) (now (device .entry)) (now (local .entry))) ⌝ }
+{
+    let state = before.state;
+    let mut after = resume(settings, state, code, regs, device, local);
+    after.steps = before.steps + after.steps;
+    after
 }
 
 // The run of a capture in slices, each from the state that the one before returned, with a line of how far it has come.
@@ -79,7 +109,12 @@ fn run_in_slices(
     regs: &mut [u32],
     device: &mut [u32],
     local: &mut [u32],
-) -> Replayed {
+) -> Replayed
+    requires { ⌜ settings .budget ≤ mostSteps ⌝ }
+    ensures { λ r. ⌜
+        answered r (now (regs .exit)) (now (device .exit)) (now (local .exit))
+        ≡ startOf launched settings state (now (code .entry)) (now (regs .entry)) (now (device .entry)) (now (local .entry)) ⌝ }
+{
     let first = slice_of(settings.budget);
     let mut answer = start(
         budgeted(settings, first),
@@ -90,27 +125,17 @@ fn run_in_slices(
         device,
         local,
     );
-    let mut steps = answer.steps;
     let mut left = settings.budget - first;
     while 0 < left {
         let outcome = answer.outcome;
         if !is_stopped(outcome) {
             break;
         }
-        say_progress(steps, settings.budget);
+        say_progress(answer.steps, settings.budget);
         let next = slice_of(left);
-        answer = go_on(
-            budgeted(settings, next),
-            answer.state,
-            code,
-            regs,
-            device,
-            local,
-        );
-        steps = wrapping_add_u32(steps, answer.steps);
+        answer = go_further(budgeted(settings, next), answer, code, regs, device, local);
         left -= next;
     }
-    answer.steps = steps;
     answer
 }
 
@@ -123,10 +148,20 @@ pub fn run(
     regs: &mut [u32],
     device: &mut [u32],
     local: &mut [u32],
-) -> Replayed {
+) -> Replayed
+    ensures { λ r. ⌜
+        answered r (now (regs .exit)) (now (device .exit)) (now (local .exit))
+        ≡ startOf launched settings state (now (code .entry)) (now (regs .entry)) (now (device .entry)) (now (local .entry)) ⌝ }
+{
     let shown = libc::isatty(STDERR_FILENO) == 1;
-    if (SLICE < settings.budget) & (settings.budget <= MOST_STEPS) & shown {
-        return run_in_slices(settings, launched, state, code, regs, device, local);
+    if settings.budget <= SLICE {
+        return start(settings, launched, state, code, regs, device, local);
     }
-    start(settings, launched, state, code, regs, device, local)
+    if MOST_STEPS < settings.budget {
+        return start(settings, launched, state, code, regs, device, local);
+    }
+    if !shown {
+        return start(settings, launched, state, code, regs, device, local);
+    }
+    run_in_slices(settings, launched, state, code, regs, device, local)
 }
