@@ -18,7 +18,7 @@ abbrev begin : ℕ → List Op → Bool
 begin d [] = true
 begin d (o ∷ os) = eqb (opcodeOf o / 16) d && begin d os
 
--- nothing is found in what follows
+-- where nothing is found in what follows, only the first list counts
 find-before : (test : Op → Bool) (os ps : List Op) → find test ps ≡ FoundOp.Missing → find test (os ++ ps) ≡ find test os
 find-before test [] ps e = e
 find-before test (o ∷ os) ps e = ap (cond (test o) (FoundOp.Carried o)) (find-before test os ps e)
@@ -49,7 +49,8 @@ module _ (c m : ℕ) where
   module _ (plain : m ≡ 0) where
     pub among-sums : c < 0x10 → find (has c m) inRegisters ≡ numbered opcodeOf sums c
     among-sums h =
-        find-before (has c m) sums (bitwise ++ moves) (find-after 2 bitwise moves refl (λ z. omega arith) ∙ find-after 15 moves [] refl (λ z. omega arith))
+        find-before (has c m) sums (bitwise ++ moves)
+        (find-after 2 bitwise moves refl (λ z. omega arith) ∙ find-after 15 moves [] refl (λ z. omega arith))
         ∙ simp (eq-eqb m 0 plain, and-true)
 
     pub among-bitwise : 0x10 ≤ c → c < 0x30 → find (has c m) inRegisters ≡ numbered opcodeOf bitwise c

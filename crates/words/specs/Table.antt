@@ -108,14 +108,14 @@ modifierOf (Op.Atomic o) = atomicModifier o
 modifierOf Op.Cas = 0
 modifierOf (Op.Control o) = controlModifier o
 
--- sums, products and quotients: 00 to 0F
+-- the operations on numbers: 00 to 0F
 abbrev pub sums : List Op
 sums =
     Op.Two TwoOp.Add ∷ Op.Two TwoOp.Sub ∷ Op.Two TwoOp.Mul ∷ Op.Two TwoOp.Div ∷ Op.Two TwoOp.Udiv ∷ Op.Two TwoOp.Rem
     ∷ Op.Two TwoOp.Urem ∷ Op.One OneOp.Neg ∷ Op.One OneOp.Abs ∷ Op.Two TwoOp.Min ∷ Op.Two TwoOp.Max ∷ Op.Two TwoOp.Mulhi
     ∷ []
 
--- of bits, and the comparisons: 20 to 2F
+-- those on bits, and the comparisons: 20 to 2F
 abbrev pub bitwise : List Op
 bitwise =
     Op.Two TwoOp.And ∷ Op.Two TwoOp.Or ∷ Op.Two TwoOp.Xor ∷ Op.One OneOp.Not ∷ Op.Two TwoOp.Shl ∷ Op.Two TwoOp.Shr
@@ -124,13 +124,11 @@ bitwise =
 
 -- the moves: F0 to FF
 abbrev pub moves : List Op
-moves =
-    Op.One OneOp.Mov ∷ Op.Number ∷ Op.Special ∷ []
+moves = Op.One OneOp.Mov ∷ Op.Number ∷ Op.Special ∷ []
 
--- loads, stores and CAS: 30 to 3F, with no modifier
+-- those of memory that have no modifier: 30 to 3F
 abbrev pub accesses : List Op
-accesses =
-    Op.Load Space.Device ∷ Op.Store Space.Device ∷ Op.Load Space.Local ∷ Op.Store Space.Local ∷ Op.Cas ∷ []
+accesses = Op.Load Space.Device ∷ Op.Store Space.Device ∷ Op.Load Space.Local ∷ Op.Store Space.Local ∷ Op.Cas ∷ []
 
 -- those of ATOMIC
 abbrev pub atomics : List Op

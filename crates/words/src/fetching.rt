@@ -40,7 +40,7 @@ fn no_operation() -> Instr
     }
 }
 
-// The operation that word 0 names. Chosen here, not by `op_of`, so that one fetch is compiled as a whole.
+// The operation that word 0 names. Not by `op_of`: that has other callers, and a call of it costs as much as the rest of a NOP.
 fn op_in(first: u32) -> FoundOp
     ensures { λ r. ⌜ r ≡ opOf (opcodeIn first) (modifierIn first) ⌝ }
 {

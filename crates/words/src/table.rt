@@ -16,7 +16,7 @@ pub enum FoundOp {
     Missing,
 }
 
-// The operation of an opcode 00 to 0F: sums, products and quotients.
+// The operation of an opcode 00 to 0F: those on numbers.
 fn sum_op(opcode: u32) -> FoundOp
     ensures { λ r. ⌜ Named opcodeOf sums opcode r ⌝ }
 {
@@ -37,7 +37,7 @@ fn sum_op(opcode: u32) -> FoundOp
     }
 }
 
-// The operation of an opcode 20 to 2F: of bits, and the comparisons.
+// The operation of an opcode 20 to 2F: those on bits, and the comparisons.
 fn bitwise_op(opcode: u32) -> FoundOp
     ensures { λ r. ⌜ Named opcodeOf bitwise opcode r ⌝ }
 {
@@ -70,7 +70,7 @@ fn move_op(opcode: u32) -> FoundOp
     }
 }
 
-// The operation of an opcode 30 to 3F that has no modifiers: loads, stores and CAS.
+// The operation of an opcode 30 to 3F that has no modifiers: those of memory.
 fn access_op(opcode: u32) -> FoundOp
     ensures { λ r. ⌜ Named opcodeOf accesses opcode r ⌝ }
 {
@@ -122,7 +122,7 @@ fn control_op(modifier: u32) -> FoundOp
     }
 }
 
-// The operation of an opcode and a modifier, of those that touch registers and predicates alone.
+// The operation of an opcode and a modifier among those that touch registers and predicates alone.
 pub(crate) fn register_op(opcode: u32, modifier: u32) -> FoundOp
     ensures { λ r. ⌜ r ≡ find (has opcode modifier) inRegisters ⌝ }
 {
@@ -138,7 +138,7 @@ pub(crate) fn register_op(opcode: u32, modifier: u32) -> FoundOp
     move_op(opcode)
 }
 
-// The operation of an opcode and a modifier, of those of memory and control.
+// The operation of an opcode and a modifier among those of memory and control.
 pub(crate) fn memory_or_control_op(opcode: u32, modifier: u32) -> FoundOp
     ensures { λ r. ⌜ r ≡ find (has opcode modifier) memoryAndControl ⌝ }
 {
