@@ -1,16 +1,16 @@
 -- Finding an operation by its numbers. What is found passes the test it was found by; and a search of the code by one number (`Named`) gives
 -- what the search by opcode and modifier does.
 use mathlib.Core.Path.{_≡_, refl, sym, ap, _∙_}
-use mathlib.Core.Bool.{Bool, true, false, cond, and-true, and-false}
+use mathlib.Core.Bool.{Bool, true, false, cond}
 use mathlib.Core.List.{List, [], _∷_}
 use Prim.Native.Nat.{ℕ}
 use native.Mathlib.Omega.{arith}
 use lib.Dec.{eqb}
-use borrow.Author.Tests.{eq-eqb, ne-eqb, eqb-true}
+use borrow.Author.Tests.{ne-eqb, eqb-true}
 use Rattle.ground.proofs.Bools.{and-left, and-right}
 use Rattle.words.specs.declared.instr.Op.{Op}
 use Rattle.words.specs.declared.table.FoundOp.{FoundOp}
-use Rattle.words.specs.Table.{opcodeOf, modifierOf, plain, operations, find, has, opOf}
+use Rattle.words.specs.Table.{opcodeOf, modifierOf, operations, find, has, opOf}
 use Rattle.words.specs.Named.{numbered, NotIn, Named}
 
 -- what is found passes the test
@@ -43,11 +43,3 @@ not-in N f (o ∷ os) n h =
 pub named-find : (f : Op → ℕ) (os : List Op) (n : ℕ) (r : FoundOp) → Named f os n r → r ≡ numbered f os n
 named-find f os n (FoundOp.Carried o) h = sym (ap (numbered f os) (h .0) ∙ h .1)
 named-find f os n FoundOp.Missing h = sym (not-in (Unit {0}) f os n h .1)
-
--- other opcodes are looked up alone, and take modifier 0 only
-module _ (c m : ℕ) (atomic : c ≡ 0x3C → ⊥) (control : c ≡ 0x3F → ⊥) where
-  pub by-opcode : m ≡ 0 → opOf c m ≡ numbered opcodeOf plain c
-  by-opcode e = simp (ne-eqb c 0x3C atomic, ne-eqb c 0x3F control, eq-eqb m 0 e, and-true)
-
-  pub not-listed : (m ≡ 0 → ⊥) → opOf c m ≡ FoundOp.Missing
-  not-listed n = simp (ne-eqb c 0x3C atomic, ne-eqb c 0x3F control, ne-eqb m 0 n, and-false)

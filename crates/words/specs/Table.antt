@@ -108,15 +108,27 @@ modifierOf (Op.Atomic o) = atomicModifier o
 modifierOf Op.Cas = 0
 modifierOf (Op.Control o) = controlModifier o
 
--- the operations that have no modifier
-abbrev pub plain : List Op
-plain =
+-- the operations on numbers: 00 to 0F
+abbrev pub sums : List Op
+sums =
     Op.Two TwoOp.Add ∷ Op.Two TwoOp.Sub ∷ Op.Two TwoOp.Mul ∷ Op.Two TwoOp.Div ∷ Op.Two TwoOp.Udiv ∷ Op.Two TwoOp.Rem
-    ∷ Op.Two TwoOp.Urem ∷ Op.Two TwoOp.Min ∷ Op.Two TwoOp.Max ∷ Op.Two TwoOp.Mulhi ∷ Op.Two TwoOp.And ∷ Op.Two TwoOp.Or
-    ∷ Op.Two TwoOp.Xor ∷ Op.Two TwoOp.Shl ∷ Op.Two TwoOp.Shr ∷ Op.Two TwoOp.Sar
-    ∷ Op.Compare CompareOp.Eq ∷ Op.Compare CompareOp.Ne ∷ Op.Compare CompareOp.Lt ∷ Op.Compare CompareOp.Ge
-    ∷ Op.One OneOp.Neg ∷ Op.One OneOp.Abs ∷ Op.One OneOp.Not ∷ Op.One OneOp.Popcnt ∷ Op.One OneOp.Mov ∷ Op.Special
-    ∷ Op.Load Space.Device ∷ Op.Load Space.Local ∷ Op.Store Space.Device ∷ Op.Store Space.Local ∷ Op.Number ∷ Op.Cas ∷ []
+    ∷ Op.Two TwoOp.Urem ∷ Op.One OneOp.Neg ∷ Op.One OneOp.Abs ∷ Op.Two TwoOp.Min ∷ Op.Two TwoOp.Max ∷ Op.Two TwoOp.Mulhi
+    ∷ []
+
+-- those on bits, and the comparisons: 20 to 2F
+abbrev pub bitwise : List Op
+bitwise =
+    Op.Two TwoOp.And ∷ Op.Two TwoOp.Or ∷ Op.Two TwoOp.Xor ∷ Op.One OneOp.Not ∷ Op.Two TwoOp.Shl ∷ Op.Two TwoOp.Shr
+    ∷ Op.Two TwoOp.Sar ∷ Op.One OneOp.Popcnt ∷ Op.Compare CompareOp.Eq ∷ Op.Compare CompareOp.Ne
+    ∷ Op.Compare CompareOp.Lt ∷ Op.Compare CompareOp.Ge ∷ []
+
+-- the moves: F0 to FF
+abbrev pub moves : List Op
+moves = Op.One OneOp.Mov ∷ Op.Number ∷ Op.Special ∷ []
+
+-- those of memory that have no modifier: 30 to 3F
+abbrev pub accesses : List Op
+accesses = Op.Load Space.Device ∷ Op.Store Space.Device ∷ Op.Load Space.Local ∷ Op.Store Space.Local ∷ Op.Cas ∷ []
 
 -- those of ATOMIC
 abbrev pub atomics : List Op
@@ -132,9 +144,17 @@ controls =
     ∷ Op.Control ControlOp.Break ∷ Op.Control ControlOp.Continue ∷ Op.Control ControlOp.Endloop ∷ Op.Control ControlOp.Halt
     ∷ Op.Control ControlOp.Barrier ∷ Op.Control ControlOp.Nop ∷ []
 
+-- those that touch registers and predicates alone
+abbrev pub inRegisters : List Op
+inRegisters = sums ++ (bitwise ++ moves)
+
+-- those of memory and control: 30 to 3F
+abbrev pub memoryAndControl : List Op
+memoryAndControl = accesses ++ (atomics ++ controls)
+
 -- the operations that are carried
 abbrev pub operations : List Op
-operations = plain ++ (atomics ++ controls)
+operations = inRegisters ++ memoryAndControl
 
 -- the first operation of a list that passes a test
 abbrev pub find : (Op → Bool) → List Op → FoundOp

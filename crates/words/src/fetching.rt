@@ -7,10 +7,13 @@ use crate::instr::Op;
 use crate::reading::instr_in;
 use crate::reading::word_at;
 use crate::table::FoundOp;
-use crate::table::op_of;
+use crate::table::memory_or_control_op;
+use crate::table::register_op;
 ghost use mathlib.Core.Path.{_≡_};
 ghost use Rattle.words.specs.Fetching.{nop, instrAt, controlIn};
 ghost use Rattle.words.specs.Forms.{size};
+ghost use Rattle.words.specs.Layout.{opcodeIn, modifierIn};
+ghost use Rattle.words.specs.Table.{opOf};
 
 // A control operation, or any other.
 pub enum ControlIn {
@@ -37,6 +40,18 @@ fn no_operation() -> Instr
     }
 }
 
+// The operation that word 0 names. Not by `op_of`: that has other callers, and a call of it costs as much as the rest of a NOP.
+fn op_in(first: u32) -> FoundOp
+    ensures { λ r. ⌜ r ≡ opOf (opcodeIn first) (modifierIn first) ⌝ }
+{
+    let opcode = first / 0x1000000;
+    let modifier = first / 16 % 16;
+    if opcode / 16 == 3 {
+        return memory_or_control_op(opcode, modifier);
+    }
+    register_op(opcode, modifier)
+}
+
 // What the words at a place say. NOP where no word stands, or none that names an operation.
 pub fn instr_at(words: &[u32], at: usize) -> Instr
     ensures { λ r. ⌜ r ≡ instrAt (now (words .entry)) at ⌝ }
@@ -45,7 +60,7 @@ pub fn instr_at(words: &[u32], at: usize) -> Instr
         return no_operation();
     }
     let first = words[at];
-    let found = op_of(first / 0x1000000, first / 16 % 16);
+    let found = op_in(first);
     let FoundOp::Carried(op) = found else {
         return no_operation();
     };

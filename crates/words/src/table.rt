@@ -1,6 +1,6 @@
 // The table of operations: from an opcode and a modifier to the operation, and back.
 ghost use mathlib.Core.Path.{_≡_};
-ghost use Rattle.words.specs.Table.{twoCode, compareCode, oneCode, loadCode, storeCode, opcodeOf, atomicModifier, controlModifier, modifierOf, plain, atomics, controls, opOf};
+ghost use Rattle.words.specs.Table.{twoCode, compareCode, oneCode, loadCode, storeCode, opcodeOf, atomicModifier, controlModifier, modifierOf, sums, bitwise, moves, accesses, atomics, controls, inRegisters, memoryAndControl, find, has, opOf};
 ghost use Rattle.words.specs.Named.{Named};
 use crate::instr::AtomicOp;
 use crate::instr::CompareOp;
@@ -16,9 +16,9 @@ pub enum FoundOp {
     Missing,
 }
 
-// The operation of an opcode that has no modifiers.
-fn plain_op(opcode: u32) -> FoundOp
-    ensures { λ r. ⌜ Named opcodeOf plain opcode r ⌝ }
+// The operation of an opcode 00 to 0F: those on numbers.
+fn sum_op(opcode: u32) -> FoundOp
+    ensures { λ r. ⌜ Named opcodeOf sums opcode r ⌝ }
 {
     match opcode {
         0x00 => FoundOp::Carried(Op::Two(TwoOp::Add)),
@@ -28,30 +28,57 @@ fn plain_op(opcode: u32) -> FoundOp
         0x04 => FoundOp::Carried(Op::Two(TwoOp::Udiv)),
         0x05 => FoundOp::Carried(Op::Two(TwoOp::Rem)),
         0x06 => FoundOp::Carried(Op::Two(TwoOp::Urem)),
+        0x07 => FoundOp::Carried(Op::One(OneOp::Neg)),
+        0x08 => FoundOp::Carried(Op::One(OneOp::Abs)),
         0x09 => FoundOp::Carried(Op::Two(TwoOp::Min)),
         0x0A => FoundOp::Carried(Op::Two(TwoOp::Max)),
         0x0B => FoundOp::Carried(Op::Two(TwoOp::Mulhi)),
+        _ => FoundOp::Missing,
+    }
+}
+
+// The operation of an opcode 20 to 2F: those on bits, and the comparisons.
+fn bitwise_op(opcode: u32) -> FoundOp
+    ensures { λ r. ⌜ Named opcodeOf bitwise opcode r ⌝ }
+{
+    match opcode {
         0x20 => FoundOp::Carried(Op::Two(TwoOp::And)),
         0x21 => FoundOp::Carried(Op::Two(TwoOp::Or)),
         0x22 => FoundOp::Carried(Op::Two(TwoOp::Xor)),
+        0x23 => FoundOp::Carried(Op::One(OneOp::Not)),
         0x24 => FoundOp::Carried(Op::Two(TwoOp::Shl)),
         0x25 => FoundOp::Carried(Op::Two(TwoOp::Shr)),
         0x26 => FoundOp::Carried(Op::Two(TwoOp::Sar)),
+        0x27 => FoundOp::Carried(Op::One(OneOp::Popcnt)),
         0x28 => FoundOp::Carried(Op::Compare(CompareOp::Eq)),
         0x29 => FoundOp::Carried(Op::Compare(CompareOp::Ne)),
         0x2A => FoundOp::Carried(Op::Compare(CompareOp::Lt)),
         0x2B => FoundOp::Carried(Op::Compare(CompareOp::Ge)),
-        0x07 => FoundOp::Carried(Op::One(OneOp::Neg)),
-        0x08 => FoundOp::Carried(Op::One(OneOp::Abs)),
-        0x23 => FoundOp::Carried(Op::One(OneOp::Not)),
-        0x27 => FoundOp::Carried(Op::One(OneOp::Popcnt)),
+        _ => FoundOp::Missing,
+    }
+}
+
+// The operation of an opcode F0 to FF: the moves.
+fn move_op(opcode: u32) -> FoundOp
+    ensures { λ r. ⌜ Named opcodeOf moves opcode r ⌝ }
+{
+    match opcode {
         0xF0 => FoundOp::Carried(Op::One(OneOp::Mov)),
-        0xF2 => FoundOp::Carried(Op::Special),
-        0x30 => FoundOp::Carried(Op::Load(Space::Device)),
-        0x38 => FoundOp::Carried(Op::Load(Space::Local)),
-        0x31 => FoundOp::Carried(Op::Store(Space::Device)),
-        0x39 => FoundOp::Carried(Op::Store(Space::Local)),
         0xF1 => FoundOp::Carried(Op::Number),
+        0xF2 => FoundOp::Carried(Op::Special),
+        _ => FoundOp::Missing,
+    }
+}
+
+// The operation of an opcode 30 to 3F that has no modifiers: those of memory.
+fn access_op(opcode: u32) -> FoundOp
+    ensures { λ r. ⌜ Named opcodeOf accesses opcode r ⌝ }
+{
+    match opcode {
+        0x30 => FoundOp::Carried(Op::Load(Space::Device)),
+        0x31 => FoundOp::Carried(Op::Store(Space::Device)),
+        0x38 => FoundOp::Carried(Op::Load(Space::Local)),
+        0x39 => FoundOp::Carried(Op::Store(Space::Local)),
         0x3D => FoundOp::Carried(Op::Cas),
         _ => FoundOp::Missing,
     }
@@ -95,20 +122,46 @@ fn control_op(modifier: u32) -> FoundOp
     }
 }
 
+// The operation of an opcode and a modifier among those that touch registers and predicates alone.
+pub(crate) fn register_op(opcode: u32, modifier: u32) -> FoundOp
+    ensures { λ r. ⌜ r ≡ find (has opcode modifier) inRegisters ⌝ }
+{
+    if modifier != 0 {
+        return FoundOp::Missing;
+    }
+    if opcode < 0x10 {
+        return sum_op(opcode);
+    }
+    if opcode < 0x30 {
+        return bitwise_op(opcode);
+    }
+    move_op(opcode)
+}
+
+// The operation of an opcode and a modifier among those of memory and control.
+pub(crate) fn memory_or_control_op(opcode: u32, modifier: u32) -> FoundOp
+    ensures { λ r. ⌜ r ≡ find (has opcode modifier) memoryAndControl ⌝ }
+{
+    if opcode == 0x3F {
+        return control_op(modifier);
+    }
+    if opcode == 0x3C {
+        return atomic_op(modifier);
+    }
+    if modifier == 0 {
+        return access_op(opcode);
+    }
+    FoundOp::Missing
+}
+
 // The operation of an opcode and a modifier.
 pub fn op_of(opcode: u32, modifier: u32) -> FoundOp
     ensures { λ r. ⌜ r ≡ opOf opcode modifier ⌝ }
 {
-    if opcode == 0x3C {
-        return atomic_op(modifier);
+    if opcode / 16 == 3 {
+        return memory_or_control_op(opcode, modifier);
     }
-    if opcode == 0x3F {
-        return control_op(modifier);
-    }
-    if modifier == 0 {
-        return plain_op(opcode);
-    }
-    FoundOp::Missing
+    register_op(opcode, modifier)
 }
 
 // The opcodes of two words, RS2.

@@ -17,8 +17,8 @@ mul-first c = search needs
 shared-slice-read-first : tie.Need-shared-slice-read-first
 shared-slice-read-first c = search needs
 
-op-of-requires : tie.Need-op-of-requires
-op-of-requires c κs = search needs
+op-in-requires : tie.Need-op-in-requires
+op-in-requires c κs = search needs
 
 enum-known-found : tie.Need-enum-known-found
 enum-known-found c = search needs
@@ -32,7 +32,7 @@ no-operation-requires-2 c κs = search needs
 returns-2 : tie.Need-returns-2
 returns-2 c =
     c .no-operation2 .ensures
-    ∙ sym (fetch-missing _ _ (c .before .before .before .before .before .if1 .left) (sym (c .before .before .before .op-of .ensures) ∙ c .before .enum-told .given .1))
+    ∙ sym (fetch-missing _ _ (c .before .before .before .before .before .if1 .left) (sym (c .before .before .before .op-in .ensures) ∙ c .before .enum-told .given .1))
 
 limits-of-requires : tie.Need-limits-of-requires
 limits-of-requires c κs = search needs
@@ -51,7 +51,7 @@ returns-3 c =
     c .instr-in .ensures
     ∙ sym
     (fetch-carried _ _ (c .before .before .before .before .before .before .before .before .if1 .left) (c .before .before .before .before .found .given .0 .0) (c .before .before .limits-of .result) (c .before .word-at .result)
-    (sym (c .before .before .before .before .before .before .op-of .ensures) ∙ c .before .before .before .before .found .given .1) (c .before .before .limits-of .ensures) (c .before .word-at .ensures))
+    (sym (c .before .before .before .before .before .before .op-in .ensures) ∙ c .before .before .before .before .found .given .1) (c .before .before .limits-of .ensures) (c .before .word-at .ensures))
 
 pub instr-at-spec : {M : Type 1} → statement M
 instr-at-spec =
@@ -61,7 +61,7 @@ instr-at-spec =
     returns
     mul-first
     shared-slice-read-first
-    op-of-requires
+    op-in-requires
     enum-known-found
     enum-told
     no-operation-requires-2
