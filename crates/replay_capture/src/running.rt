@@ -49,9 +49,14 @@ fn budgeted(settings: Settings, budget: u32) -> Settings
     }
 }
 
-// How far a run has come, in a line that the next one overwrites.
+// Clears the terminal's line: a carriage return, and then the escape sequence that erases to the end of the line.
+fn clear_line() {
+    io::write_all(STDERR_FILENO, &[13, 27, 91, 75]);
+}
+
+// How far a run has come, in place of what stood on the line.
 fn say_progress(steps: u32, of: u32) {
-    io::write_all(STDERR_FILENO, b"\r");
+    clear_line();
     io::print_decimal(STDERR_FILENO, steps as u64);
     io::write_all(STDERR_FILENO, b" of ");
     io::print_decimal(STDERR_FILENO, of as u64);
@@ -163,5 +168,7 @@ pub fn run(
     if !shown {
         return start(settings, launched, state, code, regs, device, local);
     }
-    run_in_slices(settings, launched, state, code, regs, device, local)
+    let answer = run_in_slices(settings, launched, state, code, regs, device, local);
+    clear_line();
+    answer
 }
