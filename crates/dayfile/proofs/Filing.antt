@@ -15,12 +15,12 @@ use Rattle.numbers.specs.Numbers.{bytesOf}
 use Rattle.numbers.specs.Placed.{placed}
 use Rattle.numbers.proofs.Numerals.{length-bytesOf}
 use Rattle.numbers.proofs.Placing.{placed-append, placed-nil}
-use Rattle.key.specs.Layout.{longest, isBody, sizeAt, startsBody, notOfLayout}
+use Rattle.key.specs.Layout.{longest, isBody, sizeAt, startsBody, notOfLayout, short}
 use Rattle.key.proofs.Starts.{Starts, starts-of, of-starts, cut-body}
 use Rattle.dayfile.specs.declared.answer.MakeAnswer.the-variants.{Made, Refused}
 use Rattle.dayfile.specs.declared.making.Survey.{Survey}
 use Rattle.dayfile.specs.declared.making.Survey.the-variants.{Good, Bad, Many}
-use Rattle.dayfile.specs.Day.{mostRecords, short, tooMany, tableEnd, table, fileOf, cut}
+use Rattle.dayfile.specs.Day.{mostRecords, tooMany, tableEnd, table, fileOf, cut}
 use Rattle.dayfile.specs.Make.{survey, runs, made, filed, surveyed, makeOf}
 use Rattle.dayfile.proofs.Lists.{length-cut, length-table}
 

@@ -15,10 +15,10 @@ use Rattle.ground.proofs.Tests.{same-length, true-or-false}
 use Rattle.numbers.specs.Numbers.{numberAt, Bytes}
 use Rattle.numbers.specs.Placed.{placed}
 use Rattle.numbers.proofs.Placing.{placed-on, placed-done}
-use Rattle.key.specs.Layout.{notOfLayout}
+use Rattle.key.specs.Layout.{notOfLayout, short}
 use Rattle.dayfile.specs.declared.answer.ReadAnswer.the-variants.{Record, Refused as NotRead}
 use Rattle.dayfile.specs.declared.answer.CountAnswer.the-variants.{Count, Refused as NotCounted}
-use Rattle.dayfile.specs.Day.{mostRecords, short, tooMany, noRecord, tableEnd, table}
+use Rattle.dayfile.specs.Day.{mostRecords, tooMany, noRecord, tableEnd, table}
 use Rattle.dayfile.specs.Read.{countOf, bodiesOf, isFile, refusalOf, firstSame, placeOf, lengthOf, recordOf, readAnswer, firstsOf, Counting, counted, firstsIn, walk}
 use Rattle.dayfile.proofs.Lists.{parted, bodies-file, accepted-given}
 use Rattle.dayfile.proofs.Walks.{peel, walk-is-file, short-file}

@@ -1,5 +1,5 @@
 -- The recursive check of a level. The room left falls with each call of itself; in the loop, how far the pass has come is `Along`, and each turn is a law of `Reaching`.
-use Prim.Native.Nat.{ℕ, _-_}
+use Prim.Native.Nat.{ℕ, _-_, _<_}
 use native.Mathlib.Omega.{arith}
 use lib.ListN.{length}
 use borrow.Author.Needs.{needs}
