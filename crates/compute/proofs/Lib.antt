@@ -3,6 +3,7 @@ pub mod Lanewise
 pub mod Writing
 pub mod Changing
 pub mod Settling
+pub mod Reaching
 pub mod FaultKinds
 pub mod Standing
 pub mod Arms

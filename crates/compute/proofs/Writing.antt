@@ -1,18 +1,20 @@
 -- The writer. Its turn at a lane, as the code takes it; and what it leaves in each register, by the laws of `slot` alone.
-use mathlib.Core.Path.{_≡_, refl, ap, _∙_}
+use mathlib.Core.Path.{_≡_, refl, sym, ap, _∙_}
 use mathlib.Core.Bool.{Bool, true, false, _&&_, cond}
 use mathlib.Core.List.{List}
-use Prim.Native.Nat.{ℕ, zero, suc, _≤_, _<_}
+use Prim.Native.Nat.{ℕ, zero, suc, _≤_, _<_, min}
+use native.Mathlib.Nat.{min-eq-left}
 use native.Mathlib.Decide.{ℕ-discrete}
 use native.Mathlib.Omega.{arith}
 use lib.Dec.{eqb}
 use lib.ListN.{length, getD, set}
 use lib.Seq.{getD-set-same, getD-set-other}
-use borrow.Author.Tests.{eq-eqb, ne-eqb}
+use borrow.Author.Tests.{eq-eqb, ne-eqb, lt-ltb}
 use Rattle.ground.specs.Lists.{inOrder}
 use Rattle.ground.proofs.Lists.{length-inOrder}
 use Rattle.ground.proofs.Choices.{cond-by, set-cond, length-set-cond}
-use Rattle.lanes.specs.Sets.{has}
+use Rattle.lanes.specs.Sets.{widest, has, first}
+use Rattle.lanes.proofs.Members.{has-first}
 use Rattle.compute.specs.declared.Shape.{Shape}
 use Rattle.compute.specs.Registers.{slotIn, writeTurn, writeLanes, Stands}
 use Rattle.compute.proofs.Slots.{slot-inj, slot-in}
@@ -22,6 +24,11 @@ pub write-turn : (shape : Shape) (d t : ℕ) (results : List ℕ) (i : ℕ) (l :
     → v ≡ cond p (getD results i 0) (getD l k 0) → set l k v ≡ writeTurn shape d t results i l
 write-turn shape d t results i l k v p at e h =
     ap (set l k) h ∙ set-cond l k (getD results i 0) p ∙ rw (at, e) refl
+
+-- where every lane below the width executes
+pub write-turn-all : (shape : Shape) (d : ℕ) (results : List ℕ) (i : ℕ) (l : List ℕ) (k : ℕ) → k ≡ slotIn shape i d → i < shape .width
+    → set l k (getD results i 0) ≡ writeTurn shape d (first (shape .width)) results i l
+write-turn-all shape d results i l k at b = rw (at, has-first (shape .width) i, lt-ltb i (shape .width) b) refl
 
 pub length-write-turn : (shape : Shape) (d t : ℕ) (results : List ℕ) (i : ℕ) (l : List ℕ) → length (writeTurn shape d t results i l) ≡ length l
 length-write-turn shape d t results i l = length-set-cond l (slotIn shape i d) (getD results i 0) (has t i)
@@ -81,3 +88,9 @@ module _ {shape : Shape} {regs : List ℕ} {d : ℕ} (h : Stands shape regs d) (
 pub length-write-lanes : (shape : Shape) (regs : List ℕ) (d t : ℕ) (results : List ℕ) → length (writeLanes shape regs d t results) ≡ length regs
 unfolding writeLanes
 length-write-lanes shape regs d t results = length-inOrder (writeTurn shape d t results) (length-write-turn shape d t results) (shape .width) regs
+
+-- a set that is every lane below the width
+pub write-lanes-all : {shape : Shape} {regs : List ℕ} {d : ℕ} → Stands shape regs d → (t : ℕ) (results : List ℕ) → t ≡ first (min (shape .width) widest)
+    → writeLanes shape regs d (first (shape .width)) results ≡ writeLanes shape regs d t results
+write-lanes-all {shape} {regs} {d} h t results e =
+    ap (λ (s : ℕ). writeLanes shape regs d s results) (sym (e ∙ ap first (min-eq-left (h .narrow))))

@@ -1,9 +1,10 @@
 // Which lanes fault, by kind.
 ghost use mathlib.Core.Path.{_≡_};
 ghost use mathlib.Core.Bool.{not, _&&_};
-ghost use Prim.Native.Nat.{_≤_};
+ghost use Prim.Native.Nat.{_%_, _≤_, min};
 ghost use lib.Dec.{eqb};
 ghost use lib.ListN.{getD};
+ghost use Rattle.ground.specs.Tests.{allOf};
 ghost use Rattle.lanes.specs.Sets.{widest, has, setOf};
 ghost use Rattle.compute.specs.Registers.{Stands, gatherOf};
 ghost use Rattle.compute.specs.Faulting as kinds;
@@ -47,15 +48,40 @@ struct Access {
     past: Lanes,
 }
 
-// Whether an address is past a memory of so many words.
-fn past_end(address: u32, words: usize) -> bool
-    ensures { λ r. ⌜ r ≡ isPast words address ⌝ }
+// How many of a memory's words an address can name.
+fn nameable(words: usize) -> u32
+    ensures { λ r. ⌜ r ≡ min words 0x40000000 ⌝ }
 {
-    words <= ((address / 4) as usize)
+    if words < 0x4000_0000 {
+        words as u32
+    } else {
+        0x4000_0000
+    }
 }
 
-// The lanes of `t` that can't reach their addresses, in a memory of so many words.
-fn reach(at: [u32; 32], words: usize, t: Lanes, width: u32) -> Access
+// Whether an address is past a memory of so many words.
+fn past_end(address: u32, words: u32) -> bool
+    ensures { λ r. ⌜ r ≡ isPast words address ⌝ }
+{
+    words <= address / 4
+}
+
+// Whether every address, those of the lanes that do not execute too, is a multiple of 4 and within a memory of so many words.
+fn all_reach(at: [u32; 32], words: u32) -> bool
+    ensures { λ r. ⌜ r ≡ allOf (λ address. eqb (address % 4) 0 && not (isPast words address)) at ⌝ }
+{
+    let mut all = true;
+    let mut k: usize = 0;
+    while k < 32 {
+        let address = at[k];
+        all = all & ((address % 4 == 0) & !past_end(address, words));
+        k += 1;
+    }
+    all
+}
+
+// The lanes of `t` that can't reach their addresses, each lane looked at.
+fn reach_by_lane(at: [u32; 32], words: u32, t: Lanes, width: u32) -> Access
     requires { ⌜ width ≤ widest ⌝ }
     ensures odd { λ r. ⌜ r .odd ≡ setOf width (λ i. has t i && isOdd (getD at i 0)) ⌝ }
     ensures past { λ r. ⌜ r .past ≡ setOf width (λ i. has t i && (not (isOdd (getD at i 0)) && isPast words (getD at i 0))) ⌝ }
@@ -72,6 +98,19 @@ fn reach(at: [u32; 32], words: usize, t: Lanes, width: u32) -> Access
         i += 1;
     }
     Access { odd, past }
+}
+
+// The lanes of `t` that can't reach their addresses, in a memory of so many words.
+fn reach(at: [u32; 32], words: usize, t: Lanes, width: u32) -> Access
+    requires { ⌜ width ≤ widest ⌝ }
+    ensures odd { λ r. ⌜ r .odd ≡ setOf width (λ i. has t i && isOdd (getD at i 0)) ⌝ }
+    ensures past { λ r. ⌜ r .past ≡ setOf width (λ i. has t i && (not (isOdd (getD at i 0)) && isPast words (getD at i 0))) ⌝ }
+{
+    let named = nameable(words);
+    if all_reach(at, named) {
+        return Access { odd: 0, past: 0 };
+    }
+    reach_by_lane(at, named, t, width)
 }
 
 // The faults of the lanes `t` at their addresses, in a memory of so many words.

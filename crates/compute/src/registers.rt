@@ -1,5 +1,6 @@
 // Where the registers stand: reading a register of every lane, and the writer.
 ghost use mathlib.Core.Path.{_≡_};
+ghost use Rattle.lanes.specs.Sets.{first};
 ghost use Rattle.compute.specs.Registers.{Stands, slotIn, gatherOf, writeLanes};
 use crate::Shape;
 use crate::masks::chosen;
@@ -30,8 +31,23 @@ pub(crate) fn gather(shape: Shape, regs: &[u32], register: u8) -> [u32; 32]
     out
 }
 
-// Writes the results of the lanes `t` to their registers `rd`.
-pub(crate) fn write_lanes(results: [u32; 32], t: Lanes, rd: u8, shape: Shape, regs: &mut [u32])
+// Writes the results of every lane to its register `rd`.
+fn write_all_lanes(results: [u32; 32], rd: u8, shape: Shape, regs: &mut [u32])
+    requires { ⌜ Stands shape (now regs) rd ⌝ }
+    ensures { λ r. ⌜ now (regs .exit) ≡ writeLanes shape (now (regs .entry)) rd (first (shape .width)) results ⌝ }
+{
+    let width = shape.width;
+    let mut i: u32 = 0;
+    while i < width {
+        let at = slot(shape, i, rd);
+        let k = i as usize;
+        regs[at] = results[k];
+        i += 1;
+    }
+}
+
+// Writes the results of the lanes `t` to their registers `rd`, lane by lane with a choice.
+fn write_some_lanes(results: [u32; 32], t: Lanes, rd: u8, shape: Shape, regs: &mut [u32])
     requires { ⌜ Stands shape (now regs) rd ⌝ }
     ensures { λ r. ⌜ now (regs .exit) ≡ writeLanes shape (now (regs .entry)) rd t results ⌝ }
 {
@@ -43,5 +59,17 @@ pub(crate) fn write_lanes(results: [u32; 32], t: Lanes, rd: u8, shape: Shape, re
         let old = regs[at];
         regs[at] = chosen(picks(t, i), results[k], old);
         i += 1;
+    }
+}
+
+// Writes the results of the lanes `t` to their registers `rd`.
+pub(crate) fn write_lanes(results: [u32; 32], t: Lanes, rd: u8, shape: Shape, regs: &mut [u32])
+    requires { ⌜ Stands shape (now regs) rd ⌝ }
+    ensures { λ r. ⌜ now (regs .exit) ≡ writeLanes shape (now (regs .entry)) rd t results ⌝ }
+{
+    if t == lanes::first(shape.width) {
+        write_all_lanes(results, rd, shape, regs);
+    } else {
+        write_some_lanes(results, t, rd, shape, regs);
     }
 }

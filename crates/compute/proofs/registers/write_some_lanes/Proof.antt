@@ -1,0 +1,102 @@
+-- `compute::registers::write_some_lanes` meets its contract: at turn i the lanes below i have had their turns.
+use mathlib.Core.Path.{_≡_}
+use Prim.Native.Nat.{_-_, _<_}
+use native.Mathlib.Omega.{arith}
+use lib.ListN.{length}
+use borrow.Author.Needs.{needs}
+use Rattle.ground.proofs.Turns.{Turned, turned-none, turned-more, turned-all, length-turned}
+use Rattle.compute.specs.Registers.{writeTurn, writeLanes}
+use Rattle.compute.proofs.Slots.{slot-in}
+use Rattle.compute.proofs.Writing.{write-turn, length-write-turn}
+use Rattle.compute.proofs.registers.write_some_lanes.Statement.{statement}
+use Rattle.compute.proofs.registers.write_some_lanes.Tie as tie
+
+abbrev Inv-loop : tie.InvT-loop
+Inv-loop t rd shape regs₀ results width i₀ regs i = Turned (shape .width) (writeTurn shape rd t results) regs₀ regs i
+
+abbrev μ-loop : tie.MeasureT-loop
+μ-loop t rd shape regs₀ results width i₀ regs i = width - i
+
+-- the lane's register stands in the buffer, which keeps its length
+inside : (z : tie.After-slot Inv-loop μ-loop) → z .slot .result < length (z .before .before .before .before .args .regs .now)
+inside z = slot-in (z .before .before .before .before .pre) _ _ (z .slot .ensures) (omega arith)
+
+long : (z : tie.At-loop Inv-loop μ-loop) → length (z .loop .regs) ≡ length (z .before .before .args .regs .now)
+long z = let a = z .before .before .args in length-turned (length-write-turn (a .shape) (a .rd) (a .t) (a .t1)) (z .loop .inv)
+
+loop-holds : tie.Need-loop-holds Inv-loop μ-loop
+loop-holds c = turned-none _ _
+
+slot-requires : tie.Need-slot-requires Inv-loop μ-loop
+slot-requires c κs = search needs
+
+cast-k : tie.Need-cast-k Inv-loop μ-loop
+cast-k c = omega arith
+
+mul-old : tie.Need-mul-old Inv-loop μ-loop
+mul-old c = let h = inside c in omega arith
+
+slice-read-old : tie.Need-slice-read-old Inv-loop μ-loop
+slice-read-old c = omega (arith, long (c .before .before .before), inside (c .before))
+
+picks-requires : tie.Need-picks-requires Inv-loop μ-loop
+picks-requires c κs = omega (arith, c .before .before .before .before .before .pre .narrow)
+
+mul-chosen : tie.Need-mul-chosen Inv-loop μ-loop
+mul-chosen c = omega arith
+
+array-read-chosen : tie.Need-array-read-chosen Inv-loop μ-loop
+array-read-chosen c = omega (arith, c .before .before .before .before .before .before .pre .narrow)
+
+chosen-requires : tie.Need-chosen-requires Inv-loop μ-loop
+chosen-requires c κs = search needs
+
+mul-regs : tie.Need-mul-regs Inv-loop μ-loop
+mul-regs c = let h = inside (c .before .before .before) in omega arith
+
+slice-write-regs : tie.Need-slice-write-regs Inv-loop μ-loop
+slice-write-regs c = let z = c .before .before .before in omega (arith, long (z .before .before), inside z)
+
+add-i : tie.Need-add-i Inv-loop μ-loop
+add-i c = omega arith
+
+loop-less : tie.Need-loop-less Inv-loop μ-loop
+loop-less c = omega arith
+
+loop-again : tie.Need-loop-again Inv-loop μ-loop
+loop-again c =
+    let z = c .before .before .before in
+    let a = z .before .before .before .before .args in
+    let h = z .before .before .loop in
+    turned-more (h .inv) (omega arith) _
+    (write-turn (a .shape) (a .rd) (a .t) (a .t1) _ (h .regs) _ _ _ (z .slot .ensures) (c .before .picks .ensures) (c .chosen .ensures))
+
+same-length : tie.Need-same-length Inv-loop μ-loop
+same-length c = long (c .before)
+
+returns : tie.Need-returns Inv-loop μ-loop
+unfolding writeLanes
+returns c = turned-all (c .before .loop .inv) (omega arith)
+
+pub write-some-lanes-spec : {M : Type 1} → statement M
+write-some-lanes-spec =
+    tie.close
+    (tie.spec
+    Inv-loop
+    μ-loop
+    loop-holds
+    slot-requires
+    cast-k
+    mul-old
+    slice-read-old
+    picks-requires
+    mul-chosen
+    array-read-chosen
+    chosen-requires
+    mul-regs
+    slice-write-regs
+    add-i
+    loop-less
+    loop-again
+    same-length
+    returns)
