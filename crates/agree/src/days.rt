@@ -27,7 +27,7 @@ fn give_made(out: &mut [u8], made: MakeAnswer) -> usize {
 }
 
 // The day file of a case's bodies. The bytes of the room that it is made in are part of the answer.
-pub fn answer_make(case: &[u8], out: &mut [u8]) -> usize {
+pub(crate) fn answer_make(case: &[u8], out: &mut [u8]) -> usize {
     let last = 8 + number(case, 0) as usize;
     let end = LENGTH_BYTES + number(case, 1) as usize;
     if case.len() < last {
@@ -63,7 +63,7 @@ fn give_record(out: &mut [u8], at: usize, file: &[u8], i: usize) -> usize {
 }
 
 // The count of a file's records, and one of them.
-pub fn answer_read(case: &[u8], out: &mut [u8]) -> usize {
+pub(crate) fn answer_read(case: &[u8], out: &mut [u8]) -> usize {
     let i = number(case, 0) as usize;
     let last = 8 + number(case, 1) as usize;
     if case.len() < last {
@@ -74,7 +74,7 @@ pub fn answer_read(case: &[u8], out: &mut [u8]) -> usize {
 }
 
 // The listing's text of a file.
-pub fn answer_list(case: &[u8], out: &mut [u8]) -> usize {
+pub(crate) fn answer_list(case: &[u8], out: &mut [u8]) -> usize {
     let last = 4 + number(case, 0) as usize;
     if case.len() < last {
         return 0;

@@ -60,7 +60,7 @@ fn read_words(case: &[u8], words: &mut [u32], out: &mut [u8]) -> usize {
 }
 
 // The instruction that a case's words start with.
-pub fn answer_read(case: &[u8], out: &mut [u8]) -> usize {
+pub(crate) fn answer_read(case: &[u8], out: &mut [u8]) -> usize {
     let mut words = [0u32; MOST_WORDS];
     let count = number(case, 0) as usize;
     if count <= MOST_WORDS {
@@ -128,7 +128,7 @@ fn write_words(case: &[u8], op: Op, room: &mut [u32], out: &mut [u8]) -> usize {
 }
 
 // The words of a case's instruction, written in a room of A5.
-pub fn answer_write(case: &[u8], out: &mut [u8]) -> usize {
+pub(crate) fn answer_write(case: &[u8], out: &mut [u8]) -> usize {
     let operation = number(case, 0);
     let FoundOp::Carried(op) = op_of(operation / 16, operation % 16) else {
         return 0;

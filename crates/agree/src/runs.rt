@@ -63,7 +63,7 @@ fn give_key(out: &mut [u8], at: usize, kernel: u32, answer: Replayed, room: usiz
 }
 
 // The key of a case's outcome and state.
-pub fn answer_key(case: &[u8], out: &mut [u8]) -> usize {
+pub(crate) fn answer_key(case: &[u8], out: &mut [u8]) -> usize {
     let answer = Replayed {
         outcome: outcome_of(case),
         steps: 0,
@@ -173,7 +173,7 @@ fn with_code(case: &[u8], code: &mut [u32], out: &mut [u8]) -> usize {
 }
 
 // A run, launched or from a state, with the key of its outcome.
-pub fn answer_run(case: &[u8], out: &mut [u8]) -> usize {
+pub(crate) fn answer_run(case: &[u8], out: &mut [u8]) -> usize {
     let mut words = [0u32; MOST_CODE];
     let n = number(case, 5) as usize;
     if n <= MOST_CODE {

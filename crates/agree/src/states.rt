@@ -13,7 +13,7 @@ use wave::state::State;
 use wave::state::whole;
 
 // Puts an outcome's eight numbers.
-pub fn give_outcome(out: &mut [u8], at: usize, outcome: Outcome) -> usize {
+pub(crate) fn give_outcome(out: &mut [u8], at: usize, outcome: Outcome) -> usize {
     match outcome {
         Outcome::Ended => give_words(out, at, &[0; 8]),
         Outcome::OutOfBudget => give_words(out, at, &[1, 0, 0, 0, 0, 0, 0, 0]),
@@ -29,7 +29,7 @@ pub fn give_outcome(out: &mut [u8], at: usize, outcome: Outcome) -> usize {
 }
 
 // Puts a state's words, of its blocks the first 32.
-pub fn give_state(out: &mut [u8], at: usize, state: State) -> usize {
+pub(crate) fn give_state(out: &mut [u8], at: usize, state: State) -> usize {
     let hot = state.hot;
     let blocks = state.blocks;
     whole(&blocks);
@@ -50,7 +50,7 @@ fn faults_of(case: &[u8]) -> Faults {
 }
 
 // The outcome of a key's case.
-pub fn outcome_of(case: &[u8]) -> Outcome {
+pub(crate) fn outcome_of(case: &[u8]) -> Outcome {
     match number(case, 2) {
         0 => Outcome::Ended,
         1 => Outcome::OutOfBudget,
@@ -63,7 +63,7 @@ pub fn outcome_of(case: &[u8]) -> Outcome {
 }
 
 // The state whose words end a case, from place `at` on.
-pub fn state_at(case: &[u8], at: usize) -> State {
+pub(crate) fn state_at(case: &[u8], at: usize) -> State {
     let mut words = [0u32; STATE_WORDS];
     take_words(case, at, &mut words);
     state_of(&words)

@@ -72,7 +72,7 @@ fn replay_bytes(path: &[u8], file: &mut [u8], size: usize) {
 }
 
 // Replays the capture in the file of this name.
-pub fn replay_file(path: &[u8]) {
+pub(crate) fn replay_file(path: &[u8]) {
     let fd = os::open_read(path);
     if fd < 0 {
         os::fail(path);

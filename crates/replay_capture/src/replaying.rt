@@ -141,7 +141,7 @@ fn least(a: usize, b: usize) -> usize
 }
 
 // Replays the words that a capture has of each buffer's.
-pub fn replay_counted(
+pub(crate) fn replay_counted(
     head: Head,
     counts: Counts,
     code: &[u32],

@@ -143,7 +143,7 @@ fn say_outcome(outcome: Outcome) -> Faults {
 }
 
 // The report of what a replay answered, but for the key.
-pub fn say_report(answer: Replayed) {
+pub(crate) fn say_report(answer: Replayed) {
     let outcome = answer.outcome;
     let state = answer.state;
     let faults = say_outcome(outcome);
@@ -159,7 +159,7 @@ fn say_byte(byte: u8) {
 }
 
 // The line of a fault's key, its bytes in two digits each.
-pub fn say_key(body: &[u8]) {
+pub(crate) fn say_key(body: &[u8]) {
     say(b"key ");
     let mut k: usize = 0;
     while k < body.len() {

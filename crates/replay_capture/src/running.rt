@@ -145,7 +145,7 @@ fn run_in_slices(
 }
 
 // The run of a capture. Where standard error is a terminal and there is much to run, it goes in slices.
-pub fn run(
+pub(crate) fn run(
     settings: Settings,
     launched: bool,
     state: State,

@@ -36,7 +36,7 @@ fn write_beside(path: &[u8], beside: &[u8], bytes: &[u8]) {
 }
 
 // Writes a file of these bytes. The file beside it has the name with `.new` behind.
-pub fn save(path: &[u8], bytes: &[u8]) {
+pub(crate) fn save(path: &[u8], bytes: &[u8]) {
     let mut beside = buffer();
     let named = path.len();
     put_bytes(&mut beside, 0, path);
