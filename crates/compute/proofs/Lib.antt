@@ -3,8 +3,8 @@ pub mod Lanewise
 pub mod Writing
 pub mod Changing
 pub mod Settling
-pub mod Reaching
 pub mod FaultKinds
+pub mod Reaching
 pub mod Standing
 pub mod Arms
 pub mod Carrying

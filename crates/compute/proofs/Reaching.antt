@@ -1,7 +1,7 @@
 -- Addresses within a memory: an address names a word below 2^30, so that more words reach no further; a loop that asks of every
--- address whether it is in reach; and where all are, no lane is astray.
+-- address whether it is in reach; and where all are, no lane faults.
 use mathlib.Core.Path.{_≡_, sym, ap, _∙_}
-use mathlib.Core.Bool.{Bool, true, not, _&&_, and-true, and-false, and-assoc}
+use mathlib.Core.Bool.{Bool, true, not, _&&_, cond, and-true, and-assoc}
 use mathlib.Core.List.{List}
 use mathlib.Core.Logic.{dite}
 use Prim.Native.Nat.{ℕ, _+_, _%_, _≤_, _<_, min}
@@ -18,16 +18,27 @@ use Rattle.ground.proofs.Bools.{and-left, and-right}
 use Rattle.ground.proofs.Tests.{all-at}
 use Rattle.lanes.specs.Sets.{has, setOf}
 use Rattle.lanes.proofs.Bits.{set-of-same}
-use Rattle.lanes.proofs.Picking.{set-of-none}
+use Rattle.words.specs.declared.instr.Space.{Space}
 use Rattle.compute.specs.Memory.{wordOf}
-use Rattle.compute.specs.Faulting.{isOdd, isPast}
+use Rattle.compute.specs.Faulting.{isOdd, isPast, pastKind, addressFault, faults, kindsOf}
+use Rattle.compute.proofs.FaultKinds.{no-kinds}
 
--- the words that an address can name
-named-past : (words address : ℕ) → wordOf address < 0x40000000 → isPast (min words 0x40000000) address ≡ isPast words address
-named-past words address h =
-    dite (decLt words 0x40000000)
+-- past the words that an address can name is past all
+named-past : (words named address : ℕ) → named ≡ min words 0x40000000 → wordOf address < 0x40000000 → isPast named address ≡ isPast words address
+named-past words named address e h =
+    ap (λ (n : ℕ). isPast n address) e
+    ∙ dite (decLt words 0x40000000)
     (λ b. ap (λ (n : ℕ). isPast n address) (min-eq-left (omega arith)))
-    (λ b. ap (λ (n : ℕ). isPast n address) (min-eq-right (omega arith)) ∙ lt-leb 0x40000000 (wordOf address) h ∙ sym (lt-leb words (wordOf address) (omega arith)))
+    (λ b. ap (λ (n : ℕ). isPast n address) (min-eq-right (omega arith))
+    ∙ lt-leb 0x40000000 (wordOf address) h ∙ sym (lt-leb words (wordOf address) (omega arith)))
+
+-- the lanes of t that are
+pub past-same : (W t words named : ℕ) (at : List ℕ) → named ≡ min words 0x40000000 → ((i : ℕ) → wordOf (getD at i 0) < 0x40000000)
+    → setOf W (λ i. has t i && (not (isOdd (getD at i 0)) && isPast named (getD at i 0)))
+    ≡ setOf W (λ i. has t i && (not (isOdd (getD at i 0)) && isPast words (getD at i 0)))
+past-same W t words named at e low =
+    set-of-same W _ _
+    (λ i b. ap (λ (q : Bool). has t i && (not (isOdd (getD at i 0)) && q)) (named-past words named (getD at i 0) e (low i)))
 
 -- ---- a loop that asks p of every number of a list: what the numbers left still decide
 
@@ -42,34 +53,21 @@ pub asked-all : (p : ℕ → Bool) (l : List ℕ) (k : ℕ) (all : Bool) → len
 unfolding allOf
 asked-all p l k all h e = sym (e ∙ ap (λ (r : List ℕ). all && allOf p r) (drop-of-length-le l h) ∙ and-true all)
 
--- ---- the lanes of t below W
+-- ---- where every address is in reach, no lane faults
 
+-- a multiple of 4, and not past the memory
 abbrev pub inReach : ℕ → ℕ → Bool
 inReach words address = eqb (address % 4) 0 && not (isPast words address)
 
-module _ (W t words : ℕ) (at : List ℕ) (long : W ≤ length at) (e : allOf (inReach words) at ≡ true) where
-  each : (i : ℕ) → i < W → inReach words (getD at i 0) ≡ true
-  each i b = all-at (inReach words) at i 0 e (omega arith)
+unfaulted : (s : Space) (words named address : ℕ) → named ≡ min words 0x40000000 → wordOf address < 0x40000000 → inReach named address ≡ true
+    → addressFault s words address ≡ 0
+unfaulted s words named address e low h =
+    ap (λ (q : Bool). cond (not q) 1 (cond (isPast words address) (pastKind s) 0)) (and-left (eqb (address % 4) 0) (not (isPast named address)) h)
+    ∙ ap (λ (q : Bool). cond q (pastKind s) 0)
+    (sym (named-past words named address e low)
+    ∙ not-true (isPast named address) (and-right (eqb (address % 4) 0) (not (isPast named address)) h))
 
-  pub none-odd : 0 ≡ setOf W (λ i. has t i && isOdd (getD at i 0))
-  none-odd =
-      sym (set-of-none W _
-      (λ i b. ap (λ (q : Bool). has t i && not q)
-      (and-left (eqb (getD at i 0 % 4) 0) (not (isPast words (getD at i 0))) (each i b))
-      ∙ and-false (has t i)))
-
-  pub none-past : 0 ≡ setOf W (λ i. has t i && (not (isOdd (getD at i 0)) && isPast words (getD at i 0)))
-  none-past =
-      sym (set-of-none W _
-      (λ i b. ap (λ (q : Bool). has t i && (not (isOdd (getD at i 0)) && q))
-      (not-true (isPast words (getD at i 0)) (and-right (eqb (getD at i 0 % 4) 0) _ (each i b)))
-      ∙ ap (λ (q : Bool). has t i && q) (and-false (not (isOdd (getD at i 0)))) ∙ and-false (has t i)))
-
--- past the words that an address can name is past all
-pub past-same : (W t words named : ℕ) (at : List ℕ) → named ≡ min words 0x40000000 → ((i : ℕ) → wordOf (getD at i 0) < 0x40000000)
-    → setOf W (λ i. has t i && (not (isOdd (getD at i 0)) && isPast named (getD at i 0)))
-    ≡ setOf W (λ i. has t i && (not (isOdd (getD at i 0)) && isPast words (getD at i 0)))
-past-same W t words named at e h =
-    set-of-same W _ _
-    (λ i b. ap (λ (q : Bool). has t i && (not (isOdd (getD at i 0)) && q))
-    (ap (λ (n : ℕ). isPast n (getD at i 0)) e ∙ named-past words (getD at i 0) (h i)))
+pub all-in-reach : (s : Space) (W t words named : ℕ) (at : List ℕ) → named ≡ min words 0x40000000 → ((i : ℕ) → wordOf (getD at i 0) < 0x40000000)
+    → W ≤ length at → allOf (inReach named) at ≡ true → faults 0 0 0 0 ≡ kindsOf W t (λ i. addressFault s words (getD at i 0))
+all-in-reach s W t words named at e low long h =
+    no-kinds W t _ (λ i b. unfaulted s words named (getD at i 0) e (low i) (all-at (inReach named) at i 0 h (omega arith)))

@@ -80,8 +80,8 @@ fn all_reach(at: [u32; 32], words: u32) -> bool
     all
 }
 
-// The lanes of `t` that can't reach their addresses, each lane looked at.
-fn reach_by_lane(at: [u32; 32], words: u32, t: Lanes, width: u32) -> Access
+// The lanes of `t` that can't reach their addresses, in a memory of so many words.
+fn reach(at: [u32; 32], words: u32, t: Lanes, width: u32) -> Access
     requires { ⌜ width ≤ widest ⌝ }
     ensures odd { λ r. ⌜ r .odd ≡ setOf width (λ i. has t i && isOdd (getD at i 0)) ⌝ }
     ensures past { λ r. ⌜ r .past ≡ setOf width (λ i. has t i && (not (isOdd (getD at i 0)) && isPast words (getD at i 0))) ⌝ }
@@ -100,19 +100,6 @@ fn reach_by_lane(at: [u32; 32], words: u32, t: Lanes, width: u32) -> Access
     Access { odd, past }
 }
 
-// The lanes of `t` that can't reach their addresses, in a memory of so many words.
-fn reach(at: [u32; 32], words: usize, t: Lanes, width: u32) -> Access
-    requires { ⌜ width ≤ widest ⌝ }
-    ensures odd { λ r. ⌜ r .odd ≡ setOf width (λ i. has t i && isOdd (getD at i 0)) ⌝ }
-    ensures past { λ r. ⌜ r .past ≡ setOf width (λ i. has t i && (not (isOdd (getD at i 0)) && isPast words (getD at i 0))) ⌝ }
-{
-    let named = nameable(words);
-    if all_reach(at, named) {
-        return Access { odd: 0, past: 0 };
-    }
-    reach_by_lane(at, named, t, width)
-}
-
 // The faults of the lanes `t` at their addresses, in a memory of so many words.
 pub(crate) fn address_faults(
     space: Space,
@@ -124,7 +111,11 @@ pub(crate) fn address_faults(
     requires { ⌜ width ≤ widest ⌝ }
     ensures { λ r. ⌜ r ≡ addressFaults space width at words t ⌝ }
 {
-    let access = reach(at, words, t, width);
+    let named = nameable(words);
+    if all_reach(at, named) {
+        return no_faults();
+    }
+    let access = reach(at, named, t, width);
     match space {
         Space::Device => Faults {
             odd: access.odd,

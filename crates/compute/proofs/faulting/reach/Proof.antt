@@ -1,53 +1,88 @@
--- `compute::faulting::reach` meets its contract: where every address is in reach no lane is astray, and else each lane was looked at.
-use mathlib.Core.Path.{_≡_, sym, _∙_}
-use Prim.Native.Nat.{ℕ, _≤_, _<_}
+-- `compute::faulting::reach` meets its contract: at turn i both sets have what they should of the lanes below i.
+use mathlib.Core.Path.{ap, _∙_}
+use mathlib.Core.Bool.{Bool, not, _&&_}
+use Prim.Native.Nat.{_-_}
 use native.Mathlib.Omega.{arith}
-use lib.ListN.{length, getD}
-use mir.Syntax.{w32}
-use mir.Val.{Fits}
+use lib.ListN.{getD}
 use borrow.Author.Needs.{needs}
-use Rattle.lanes.specs.Sets.{widest}
-use Rattle.compute.specs.Memory.{wordOf}
-use Rattle.compute.proofs.Reaching.{none-odd, none-past, past-same}
+use Rattle.lanes.specs.Sets.{has, only}
+use Rattle.lanes.proofs.Picking.{Marked, marked-none, marked-more, marked-all}
+use Rattle.compute.specs.Faulting.{isOdd, isPast}
 use Rattle.compute.proofs.faulting.reach.Statement.{statement}
 use Rattle.compute.proofs.faulting.reach.Tie as tie
 
--- an address is a number of 32 bits
-word-low : (z : tie.Start) (i : ℕ) → wordOf (getD (z .args .at) i 0) < 0x40000000
-word-low z i = let f : Fits w32 (getD (z .args .at) i 0) = search needs in omega (arith, f .fits)
+abbrev Inv-loop : tie.InvT-loop
+Inv-loop words t width at odd₀ past₀ i₀ odd past i =
+    Marked width (λ j. has t j && isOdd (getD at j 0)) odd i
+    × Marked width (λ j. has t j && (not (isOdd (getD at j 0)) && isPast words (getD at j 0))) past i
 
-nameable-requires : tie.Need-nameable-requires
-nameable-requires c κs = search needs
+abbrev μ-loop : tie.MeasureT-loop
+μ-loop words t width at odd₀ past₀ i₀ odd past i = width - i
 
-all-reach-requires : tie.Need-all-reach-requires
-all-reach-requires c κs = search needs
+loop-holds : tie.Need-loop-holds Inv-loop μ-loop
+loop-holds c = (marked-none _, marked-none _)
 
-returns : tie.Need-returns
-returns c =
-    let n = c .before .before in
-    let z = n .before in
-    let a = z .args in
-    let long : length (a .at) ≡ widest = search needs in
-    let wide : a .width ≤ length (a .at) = omega (arith, long, z .pre) in
-    let reached = sym (c .before .all-reach .ensures) ∙ c .if1 .taken in (
-      none-odd (a .width) (a .t) (n .nameable .result) (a .at) wide reached,
-      none-past (a .width) (a .t) (n .nameable .result) (a .at) wide reached
-          ∙ past-same (a .width) (a .t) (a .words) _ (a .at) (n .nameable .ensures) (word-low z),
+cast-k : tie.Need-cast-k Inv-loop μ-loop
+cast-k c = omega arith
+
+mul-address : tie.Need-mul-address Inv-loop μ-loop
+mul-address c = omega arith
+
+array-read-address : tie.Need-array-read-address Inv-loop μ-loop
+array-read-address c = omega (arith, c .before .before .pre)
+
+marked-requires : tie.Need-marked-requires Inv-loop μ-loop
+marked-requires c κs = omega (arith, c .before .before .pre)
+
+union-requires : tie.Need-union-requires Inv-loop μ-loop
+union-requires c κs = search needs
+
+past-end-requires : tie.Need-past-end-requires Inv-loop μ-loop
+past-end-requires c κs = search needs
+
+marked-requires-2 : tie.Need-marked-requires-2 Inv-loop μ-loop
+marked-requires-2 c κs = omega (arith, c .before .before .before .before .before .pre)
+
+union-requires-2 : tie.Need-union-requires-2 Inv-loop μ-loop
+union-requires-2 c κs = search needs
+
+add-i : tie.Need-add-i Inv-loop μ-loop
+add-i c = omega arith
+
+loop-less : tie.Need-loop-less Inv-loop μ-loop
+loop-less c = omega arith
+
+loop-again : tie.Need-loop-again Inv-loop μ-loop
+loop-again c =
+    let u = c .before .before .before in
+    let h = u .before .before .before in
+    let a = h .before .args in
+    let address = getD (a .t1) (h .loop .i) 0 in (
+      marked-more (h .loop .inv .0) (omega arith) _ _ (u .union .ensures) (u .before .marked .ensures),
+      marked-more (h .loop .inv .1) (omega arith) _ _ (c .union2 .ensures)
+          (c .before .marked2 .ensures
+          ∙ ap (λ (p : Bool). only (h .loop .i) (has (a .t) (h .loop .i) && (not (isOdd address) && p))) (c .before .before .past-end .ensures)),
     )
 
-reach-by-lane-requires : tie.Need-reach-by-lane-requires
-reach-by-lane-requires c κs = search needs
-
-returns-2 : tie.Need-returns-2
-returns-2 c =
-    let n = c .before .before .before in
-    let z = n .before in
-    let a = z .args in (
-      c .reach-by-lane .ensures .0,
-      c .reach-by-lane .ensures .1 ∙ past-same (a .width) (a .t) (a .words) _ (a .at) (n .nameable .ensures) (word-low z),
-    )
+returns : tie.Need-returns Inv-loop μ-loop
+returns c = (marked-all (c .before .loop .inv .0) (omega arith), marked-all (c .before .loop .inv .1) (omega arith))
 
 pub reach-spec : {M : Type 1} → statement M
 reach-spec =
     tie.close
-    (tie.spec nameable-requires all-reach-requires returns reach-by-lane-requires returns-2)
+    (tie.spec
+    Inv-loop
+    μ-loop
+    loop-holds
+    cast-k
+    mul-address
+    array-read-address
+    marked-requires
+    union-requires
+    past-end-requires
+    marked-requires-2
+    union-requires-2
+    add-i
+    loop-less
+    loop-again
+    returns)
