@@ -6,10 +6,7 @@ A line has the operation, the first operand, and after the colon the result for 
 printed as `fault`. An operation on one operand has one line, over that operand. CAS finds the first operand, expects the
 second and desires 5."""
 
-import os
-import sys
-
-STORED = os.path.join(os.path.dirname(os.path.abspath(__file__)), "..", "crates", "arith_cases", "stdout")
+from lib import stored
 
 CORNERS = [0, 1, 2, 3, 7, 31, 32, 33, 0x12345678, 0x7FFFFFFF, 0x80000000, 0x80000001, 0xDEADBEEF, 0xFFFFFFF9, 0xFFFFFFFE, 0xFFFFFFFF]
 
@@ -107,17 +104,4 @@ def answers():
     return lines(TWO) + ones + lines(COMPARE) + lines(ATOMIC) + lines(ADDRESS)
 
 
-def main():
-    if sys.argv[1:] == ["--write"]:
-        with open(STORED, "w") as file:
-            file.write(answers())
-    elif sys.argv[1:] == ["--check"]:
-        with open(STORED) as file:
-            if file.read() != answers():
-                sys.exit("crates/arith_cases/stdout is not what tests/arith_cases.py makes")
-        print("arith_cases: as stored")
-    else:
-        sys.exit(__doc__)
-
-
-main()
+stored.main(__doc__, lambda: {"crates/arith_cases/stdout": answers()})

@@ -4,10 +4,7 @@
     block_cases.py --write    writes crates/block_cases/stdin and stdout
     block_cases.py --check    fails if the stored files are not what --write would write
 """
-import os
-import sys
-
-HOME = os.path.join(os.path.dirname(os.path.dirname(os.path.abspath(__file__))), 'crates', 'block_cases')
+from lib import stored
 
 # The words
 
@@ -279,25 +276,15 @@ def cases():
         yield from group
 
 
-def main():
+def texts():
+    """The cases and the answers to them."""
     made = list(cases())
-    texts = {
-        'stdin': ''.join(' '.join(f'{w:08x}' for w in [count] + code) + '\n' for count, code in made),
-        'stdout': ''.join(check(count, code) + '\n' for count, code in made),
+    files = {
+        'crates/block_cases/stdin': ''.join(' '.join(f'{w:08x}' for w in [count] + code) + '\n' for count, code in made),
+        'crates/block_cases/stdout': ''.join(check(count, code) + '\n' for count, code in made),
     }
-    assert len(texts['stdin']) <= 65536 and all(len(code) < 128 for _, code in made), 'more than the program takes'
-    if sys.argv[1:] == ['--write']:
-        for name, text in texts.items():
-            with open(os.path.join(HOME, name), 'w') as file:
-                file.write(text)
-    elif sys.argv[1:] == ['--check']:
-        for name, text in texts.items():
-            with open(os.path.join(HOME, name)) as file:
-                if file.read() != text:
-                    sys.exit(f'crates/block_cases/{name} is not what tests/block_cases.py makes')
-        print(f'block_cases: {len(made)} cases as stored')
-    else:
-        sys.exit(__doc__)
+    assert len(files['crates/block_cases/stdin']) <= 65536 and all(len(code) < 128 for _, code in made), 'more than the program takes'
+    return files
 
 
-main()
+stored.main(__doc__, texts)

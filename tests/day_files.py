@@ -11,11 +11,10 @@ an operation, its argument, how many bytes (FFFFFFFF: the bytes of the case befo
   3 I      record I of a day file                               record PLACE LENGTH FIRST   or refused N PLACE
   4 -      the listing of a day file                            its text
 """
-import pathlib
 import random
-import sys
 
-ROOT = pathlib.Path(__file__).resolve().parent.parent / 'crates'
+from lib import stored
+
 LAST_PLACE, MOST_DEPTH, MOST_RECORDS, MOST_BYTES = 65535, 32, 1024, 65536
 KINDS = ([1], [2], [3], [4], [5], [1, 2], [1, 3])
 
@@ -307,7 +306,7 @@ def packed(cases):
     return b''.join(out)
 
 
-def stored():
+def files():
     """Every stored file and its bytes."""
     rng = random.Random(1)
     pool = [random_body(rng) for _ in range(900)]
@@ -326,21 +325,4 @@ def stored():
     }
 
 
-def main():
-    if sys.argv[1:] not in (['--write'], ['--check']):
-        sys.exit(__doc__)
-    wrong = []
-    for name, data in stored().items():
-        path = ROOT / name
-        if sys.argv[1] == '--write':
-            path.parent.mkdir(parents=True, exist_ok=True)
-            path.write_bytes(data)
-        elif not path.exists() or path.read_bytes() != data:
-            wrong.append(str(path))
-    if wrong:
-        sys.exit('not what tests/day_files.py gives: ' + ', '.join(wrong))
-    print('day_files: as stored')
-
-
-if __name__ == '__main__':
-    main()
+stored.main(__doc__, lambda: {f'crates/{name}': data for name, data in files().items()})

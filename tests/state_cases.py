@@ -4,10 +4,7 @@
     state_cases.py --write    writes crates/state_cases/stdin and stdout
     state_cases.py --check    fails if the stored files are not what --write would write
 """
-import os
-import sys
-
-HOME = os.path.join(os.path.dirname(os.path.dirname(os.path.abspath(__file__))), 'crates', 'state_cases')
+from lib import stored
 
 REGISTERS, DEEPEST, WIDEST = 4, 32, 32
 
@@ -281,25 +278,15 @@ def cases():
         yield from group
 
 
-def main():
+def texts():
+    """The cases and the answers to them."""
     made = list(cases())
-    texts = {
-        'stdin': ''.join(' '.join(f'{x:x}' for x in [REGISTERS, n, len(code)] + code + numbers) + '\n' for code, n, numbers in made),
-        'stdout': ''.join(('fits' if fits(code, n, numbers) else '11') + '\n' for code, n, numbers in made),
+    files = {
+        'crates/state_cases/stdin': ''.join(' '.join(f'{x:x}' for x in [REGISTERS, n, len(code)] + code + numbers) + '\n' for code, n, numbers in made),
+        'crates/state_cases/stdout': ''.join(('fits' if fits(code, n, numbers) else '11') + '\n' for code, n, numbers in made),
     }
-    assert len(texts['stdin']) <= 65536 and all(len(code) + len(numbers) + 3 <= 320 for code, _, numbers in made), 'more than the program takes'
-    if sys.argv[1:] == ['--write']:
-        for name, text in texts.items():
-            with open(os.path.join(HOME, name), 'w') as file:
-                file.write(text)
-    elif sys.argv[1:] == ['--check']:
-        for name, text in texts.items():
-            with open(os.path.join(HOME, name)) as file:
-                if file.read() != text:
-                    sys.exit(f'crates/state_cases/{name} is not what tests/state_cases.py makes')
-        print(f'state_cases: {len(made)} cases as stored')
-    else:
-        sys.exit(__doc__)
+    assert len(files['crates/state_cases/stdin']) <= 65536 and all(len(code) + len(numbers) + 3 <= 320 for code, _, numbers in made), 'more than the program takes'
+    return files
 
 
-main()
+stored.main(__doc__, texts)

@@ -154,7 +154,7 @@ fn counts(header: &[u32; HEADER]) -> Result<[usize; 5], Unreadable> {
         }
     }
     let blocks = counts[4].wrapping_sub(STATE_WORDS);
-    if counts[4] != 0 && (counts[4] < STATE_WORDS || !blocks.is_multiple_of(BLOCK_WORDS)) {
+    if counts[4] != 0 && (counts[4] < STATE_WORDS || blocks % BLOCK_WORDS != 0) {
         return wrong(
             4 * (COUNTS + 4),
             "a count of 0 or 7 + 6 x depth state words",
@@ -183,15 +183,9 @@ pub fn state_of(words: &[u32], end: usize) -> Result<Option<State>, Unreadable> 
     else {
         return Ok(None);
     };
-    let block = |six: &[u32]| Block {
-        part: six[0],
-        opener: six[1],
-        entered: six[2],
-        aside: six[3],
-        again: six[4],
-        left: six[5],
-    };
-    let blocks: Vec<Block> = rest.chunks_exact(BLOCK_WORDS).map(block).collect();
+    let six = |words: &[u32]| <[u32; BLOCK_WORDS]>::try_from(words).ok();
+    let sixes = rest.chunks_exact(BLOCK_WORDS).filter_map(six);
+    let blocks: Vec<Block> = sixes.map(Block::from).collect();
     if blocks.len() != depth as usize {
         let depth_at = end - 4 * (words.len() - (STATE_WORDS - 1));
         return wrong(depth_at, "the depth that the state's count gives");

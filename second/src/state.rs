@@ -22,6 +22,19 @@ pub struct Block {
     pub left: Lanes,
 }
 
+impl From<[u32; 6]> for Block {
+    fn from([part, opener, entered, aside, again, left]: [u32; 6]) -> Block {
+        Block {
+            part,
+            opener,
+            entered,
+            aside,
+            again,
+            left,
+        }
+    }
+}
+
 /// The state of a run between two instructions.
 #[derive(Clone, Debug, Default, PartialEq, Eq)]
 pub struct State {

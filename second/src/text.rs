@@ -185,19 +185,9 @@ fn state(lines: &Lines) -> Result<Option<State>, String> {
 /// The block of a line `block PART OPENER ENTERED ASIDE AGAIN LEFT`.
 fn block(&(at, line): &(usize, &str)) -> Result<Block, String> {
     let numbers = line.strip_prefix("block ").map(words_line);
-    match numbers {
-        Some(Ok(six)) if six.len() == 6 => Ok(Block {
-            part: six[0],
-            opener: six[1],
-            entered: six[2],
-            aside: six[3],
-            again: six[4],
-            left: six[5],
-        }),
-        _ => Err(format!(
-            "line {at}: expected 'block' and six numbers, found '{line}'"
-        )),
-    }
+    let six = numbers.and_then(|words| <[u32; 6]>::try_from(words.ok()?).ok());
+    six.map(Block::from)
+        .ok_or_else(|| format!("line {at}: expected 'block' and six numbers, found '{line}'"))
 }
 
 /// A capture as text, from which `parse` gives the capture back.
