@@ -105,7 +105,7 @@ fn address_fault(address: u32, operation: Operation, lent: &Lent) -> Option<usiz
         Operation::LocalLoad | Operation::LocalStore => (lent.local.len(), 3),
         _ => (lent.device.len(), 2),
     };
-    if !address.is_multiple_of(4) {
+    if address % 4 != 0 {
         Some(1)
     } else if address as usize / 4 >= words {
         Some(kind)

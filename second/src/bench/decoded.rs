@@ -187,7 +187,7 @@ impl Wave<'_> {
         let mut wrong = false;
         Self::each(self.launched, t, |lane| {
             let address = self.registers[lane * each + base].wrapping_add(i.number);
-            wrong |= !address.is_multiple_of(4) || address as usize / 4 >= words;
+            wrong |= address % 4 != 0 || address as usize / 4 >= words;
         });
         match wrong {
             false => Ok(()),
@@ -199,7 +199,7 @@ impl Wave<'_> {
     #[cold]
     fn kinds(&self, i: &Instruction, t: Lanes, words: usize, past: usize) -> Faults {
         let address = |own: &[u32]| own[i.rs1 as usize].wrapping_add(i.number);
-        let odd = self.lanes_where(t, |own| !address(own).is_multiple_of(4));
+        let odd = self.lanes_where(t, |own| address(own) % 4 != 0);
         let far = self.lanes_where(t, |own| address(own) as usize / 4 >= words);
         let mut faults = [odd, 0, 0, 0, 0];
         faults[past - 1] = far & !odd;

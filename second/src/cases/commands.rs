@@ -194,7 +194,7 @@ fn read_cases(path: &str) -> Result<Vec<Case>, String> {
 
 /// Compares answers as bytes.
 fn same(cases: &[Case], first: u64, answers: &[u8], reached: &mut Reached) -> Done {
-    if !answers.len().is_multiple_of(4) {
+    if answers.len() % 4 != 0 {
         return Err("the answers' length isn't a multiple of 4".to_string());
     }
     agreement::compare_all(cases, first, &bytes::to_numbers(answers), reached)
