@@ -17,12 +17,12 @@ use Rattle.blocks.specs.Scan.{checkOf}
 use Rattle.wave.specs.declared.state.State.{State}
 use Rattle.wave.specs.FitsTest.{fitsTest}
 use Rattle.compute.specs.Faulting.{clear}
-use Rattle.compute.specs.Memory.{Memories}
+use Rattle.compute.specs.Memory.{Memories, memories}
 use Rattle.replay.specs.declared.settings.Settings.{Settings}
 use Rattle.replay.specs.declared.answers.Outcome.{Outcome}
 use Rattle.replay.specs.Machine.{Machine}
 use Rattle.replay.specs.Run.{Ran, endedOf, stepAt, runOf}
-use Rattle.replay.specs.Replay.{mostSteps, mostWords, mostRegisters, thenTest, unless, launchTest, resumeTest, Answered, ending, byTest, runFrom, notLaunched, memories, launchMachine, stateMachine, launchOf, resumeOf}
+use Rattle.replay.specs.Replay.{mostSteps, mostWords, mostRegisters, thenTest, unless, launchTest, resumeTest, Answered, ending, byTest, runFrom, notLaunched, launchMachine, stateMachine, launchOf, resumeOf}
 use Rattle.replay.specs.Calls.{budgeted, resumedWith, added}
 use Rattle.replay.proofs.Runs.{at-ended, at-budget, at-fault, at-clear}
 use Rattle.replay.proofs.Adding.{following, runs-add}
