@@ -4,8 +4,10 @@ use mathlib.Core.Path.{_≡_, refl, sym, ap, ap₂, _∙_}
 use mathlib.Core.Bool.{true, false, not, _&&_, _||_, and-true, and-false, or-false}
 use mathlib.Core.List.{List}
 use Prim.Native.Nat.{ℕ, _<_}
+use native.Mathlib.Omega.{arith}
 use lib.Dec.{eqb, ltb}
 use lib.ListN.{length, getD}
+use Rattle.ground.specs.Lists.{inOrder}
 use Rattle.ground.proofs.Choices.{cond-by}
 use Rattle.ground.proofs.Turns.{inOrder-idle}
 use Rattle.lanes.specs.Sets.{has, without, setOf}
@@ -94,12 +96,12 @@ module _ {t : ℕ} (z : t ≡ 0) where
       (λ i. has-predicate W p t results i ∙ rw (never-has i, and-true, and-false) (or-false (has p i)))
 
   no-writes : (shape : Shape) (regs : List ℕ) (d : ℕ) (results : List ℕ) → writeLanes shape regs d t results ≡ regs
-  unfolding writeLanes
-  no-writes shape regs d results = inOrder-idle (shape .width) _ (λ i l. rw (never-has i) refl) regs
+  unfolding writeLanes inOrder
+  no-writes shape regs d results = inOrder-idle _ 0 (shape .width) (omega arith) (λ i a b l. rw (never-has i) refl) regs
 
   no-change : (W : ℕ) (at : List ℕ) (f : ℕ → ℕ → ℕ) (memory : List ℕ) → changesOf W at f t memory ≡ memory
-  unfolding changesOf
-  no-change W at f memory = inOrder-idle W _ (λ i l. rw (never-has i) refl) memory
+  unfolding changesOf inOrder
+  no-change W at f memory = inOrder-idle _ 0 W (omega arith) (λ i a b l. rw (never-has i) refl) memory
 
   no-changes : (s : Space) (W : ℕ) (at : List ℕ) (f : ℕ → ℕ → ℕ) (y : Memories) → changed s (changesOf W at f t) y ≡ y
   no-changes Space.Device W at f y = ap (λ (l : List ℕ). memories l (y .local)) (no-change W at f (y .device))

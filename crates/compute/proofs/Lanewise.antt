@@ -66,6 +66,18 @@ filled-more {W} {f} {l} {i} t b v e =
       rest = λ k p. getD-set-other l i k v 0 (λ z. omega arith) ∙ t .rest k (omega arith);
     }
 
+-- lanes whose number is 0 need no turn
+pub filled-idle : {W : ℕ} {f : ℕ → ℕ} {l : List ℕ} {i : ℕ} → Filled W f l i → (k : ℕ) → i ≤ k → k ≤ W
+    → ((j : ℕ) → i ≤ j → j < k → f j ≡ 0) → Filled W f l k
+filled-idle {W} {f} {l} {i} t k a b h =
+    record {
+      low = b;
+      narrow = t .narrow;
+      long = t .long;
+      each = λ j p. dite (decLt j i) (λ q. t .each j q) (λ q. t .rest j (omega arith) ∙ sym (h j (omega arith) p));
+      rest = λ j p. t .rest j (omega arith);
+    }
+
 -- where the numbers are f's of a lane's register, or of two, a turn reads them where they stand
 pub filled-one : {shape : Shape} {regs : List ℕ} {a : ℕ} {l : List ℕ} {i j v : ℕ} (f : ℕ → ℕ) → Stands shape regs a
     → Filled (shape .width) (λ k. f (getD (gatherOf shape regs a) k 0)) l i → i < shape .width → j ≡ slotIn shape i a → v ≡ f (getD regs j 0)

@@ -2,6 +2,7 @@ pub mod Slots
 pub mod Lanewise
 pub mod Writing
 pub mod Changing
+pub mod Walking
 pub mod Settling
 pub mod FaultKinds
 pub mod Reaching

@@ -9,6 +9,7 @@ ghost use Rattle.compute.specs.Registers.{Stands, byLane, gatherOf};
 ghost use Rattle.compute.specs.Memory.{addressesOf, wordOf, changesOf, oldOf};
 ghost use Rattle.compute.specs.Lanewise.{loadLanes, changeOf, changeTo};
 use crate::Shape;
+use crate::masks::marked;
 use crate::masks::picks;
 use crate::registers::slot;
 use lanes::Lanes;
@@ -45,22 +46,22 @@ fn word(memory: &[u32], address: u32) -> u32
     if k < memory.len() { memory[k] } else { 0 }
 }
 
-// What a lane that executes finds at its address, and 0 for another.
-fn word_found(memory: &[u32], address: u32, picked: bool) -> u32
-    ensures { λ r. ⌜ r ≡ cond picked (getD (now (memory .entry)) (wordOf address) 0) 0 ⌝ }
+// Writes the word that an address names.
+fn put_word(memory: &mut [u32], address: u32, value: u32)
+    ensures { λ r. ⌜ now (memory .exit) ≡ set (now (memory .entry)) (wordOf address) value ⌝ }
 {
-    if picked { word(memory, address) } else { 0 }
+    let k = (address / 4) as usize;
+    if k < memory.len() {
+        memory[k] = value;
+    }
 }
 
-// Writes the word that a lane's address names, where the lane executes.
-fn word_left(memory: &mut [u32], address: u32, value: u32, picked: bool)
+// Writes it where the lane executes.
+fn put_picked(memory: &mut [u32], address: u32, value: u32, picked: bool)
     ensures { λ r. ⌜ now (memory .exit) ≡ cond picked (set (now (memory .entry)) (wordOf address) value) (now (memory .entry)) ⌝ }
 {
     if picked {
-        let k = (address / 4) as usize;
-        if k < memory.len() {
-            memory[k] = value;
-        }
+        put_word(memory, address, value);
     }
 }
 
@@ -96,7 +97,7 @@ pub(crate) fn store_lanes(
     while i < width {
         let p = slot(shape, i, rd);
         let k = i as usize;
-        word_left(memory, at[k], regs[p], picks(t, i));
+        put_picked(memory, at[k], regs[p], picks(t, i));
         i += 1;
     }
 }
@@ -112,7 +113,7 @@ fn changed(change: Change, old: u32, operand: u32, desired: u32) -> u32
 }
 
 // The atomics of the lanes `t`, in rising lane order, with their registers `rs2` and, for compare-and-swap, `rs3`. The answer is the
-// word that each found.
+// word that each found. Lanes that do not execute cost nothing: the loop goes from one lane of the set to the next.
 pub(crate) fn change_lanes(
     change: Change,
     at: [u32; 32],
@@ -128,18 +129,17 @@ pub(crate) fn change_lanes(
     ensures left { λ r. ⌜ now (memory .exit) ≡ changesOf (shape .width) at (changeTo change shape (now (regs .entry)) rs2 rs3) t (now (memory .entry)) ⌝ }
 {
     let mut out = [0u32; 32];
-    let width = shape.width;
-    let mut i: u32 = 0;
-    while i < width {
+    let mut rest = lanes::meet(t, lanes::first(shape.width));
+    while rest != 0 {
+        let i = lanes::lowest(rest);
         let p = slot(shape, i, rs2);
         let q = slot(shape, i, rs3);
         let k = i as usize;
-        let picked = picks(t, i);
-        let old = word_found(memory, at[k], picked);
+        let old = word(memory, at[k]);
         let new = changed(change, old, regs[p], regs[q]);
-        word_left(memory, at[k], new, picked);
+        put_word(memory, at[k], new);
         out[k] = old;
-        i += 1;
+        rest = lanes::without(rest, marked(rest, i, true));
     }
     out
 }

@@ -2,4 +2,5 @@ pub mod Bits
 pub mod Members
 pub mod Masks
 pub mod Picking
+pub mod LowestLanes
 pub mod OneAnswer

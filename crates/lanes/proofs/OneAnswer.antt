@@ -4,7 +4,7 @@ use mathlib.Core.Bool.{Bool, _&&_}
 use Prim.Native.Nat.{ℕ, min}
 use lib.Bits.{bitAnd, bitOr}
 use lib.Dec.{ltb}
-use Rattle.lanes.specs.Sets.{widest, has, without, first, only}
+use Rattle.lanes.specs.Sets.{widest, has, without, first, only, lowest}
 
 pub has-once : (set lane : ℕ) (r q : Bool) → r ≡ has set lane → q ≡ has set lane → r ≡ q
 has-once set lane r q a b = a ∙ sym b
@@ -23,3 +23,6 @@ first-once n r q a b = a ∙ sym b
 
 pub only-once : (lane : ℕ) (picked : Bool) (r q : ℕ) → r ≡ only lane (picked && ltb lane widest) → q ≡ only lane (picked && ltb lane widest) → r ≡ q
 only-once lane picked r q a b = a ∙ sym b
+
+pub lowest-once : (set r q : ℕ) → r ≡ lowest widest set → q ≡ lowest widest set → r ≡ q
+lowest-once set r q a b = a ∙ sym b

@@ -2,6 +2,7 @@
 use Prim.Native.Nat.{ℕ, zero, suc, _+_, _-_, _/_, _%_, _^_}
 use mathlib.Core.Bool.{Bool, cond}
 use lib.Bits.{bitAnd}
+use lib.Count.{trailingZeros}
 use lib.Dec.{eqb}
 
 -- how many lanes the widest wave has
@@ -20,6 +21,10 @@ has s i = eqb (bit s i) 1
 -- the lanes of a that are not in b
 unfoldable pub without : ℕ → ℕ → ℕ
 without a b = a - bitAnd a b
+
+-- the lowest lane of a set, and n where it has none below n
+abbrev pub lowest : ℕ → ℕ → ℕ
+lowest n s = trailingZeros n s
 
 -- the lanes 0 to n-1
 unfoldable pub first : ℕ → ℕ

@@ -61,3 +61,10 @@ pub fn only(lane: u32, picked: bool) -> Lanes
         0
     }
 }
+
+// The lowest lane of a set, and the number of the widest wave's lanes where it has none.
+pub fn lowest(set: Lanes) -> u32
+    ensures { λ r. ⌜ r ≡ sets.lowest widest set ⌝ }
+{
+    u32::trailing_zeros(set)
+}

@@ -1,36 +1,65 @@
--- `compute::memory::change_lanes` meets its contract: at turn i the lanes below i have had their turns, and what each found stands in
--- the answer.
-use mathlib.Core.Path.{ap₂, _∙_}
-use Prim.Native.Nat.{ℕ, _-_, _<_}
+-- `compute::memory::change_lanes` meets its contract: the lanes take their turns from the lowest on, and what each found stands in the
+-- answer.
+use mathlib.Core.Path.{ap, ap₂, _∙_}
+use Prim.Native.Nat.{ℕ, _<_}
 use native.Mathlib.Omega.{arith}
-use lib.ListN.{length}
+use lib.ListN.{length, set}
 use borrow.Author.Needs.{needs}
-use Rattle.ground.proofs.Turns.{Turned, turned-none, turned-more, turned-all, length-turned}
-use Rattle.compute.specs.Memory.{changeTurn, changesOf, oldOf}
+use Rattle.ground.proofs.Turns.{length-turned}
+use Rattle.lanes.specs.Sets.{widest}
+use Rattle.lanes.proofs.LowestLanes.{Lowest, waiting-lowest, waiting-fewer}
 use Rattle.compute.specs.Lanewise.{changeOf, changeTo}
 use Rattle.compute.proofs.Slots.{slot-in}
-use Rattle.compute.proofs.Lanewise.{read-gathered, Filled, filled-none, filled-more, filled-all}
-use Rattle.compute.proofs.Changing.{found-old, change-turn, length-change-turn}
+use Rattle.compute.proofs.Lanewise.{read-gathered}
+use Rattle.compute.proofs.Changing.{length-change-turn}
+use Rattle.compute.proofs.Walking.{Walked, walked-none, walked-more, walked-all}
 use Rattle.compute.proofs.memory.change_lanes.Statement.{statement}
 use Rattle.compute.proofs.memory.change_lanes.Tie as tie
 
 abbrev Inv-loop : tie.InvT-loop
-Inv-loop change t rs2 rs3 shape regs memory₀ at out₀ width i₀ memory out i =
-    Filled (shape .width) (oldOf at (changeTo change shape regs rs2 rs3) t memory₀) out i
-    × Turned (shape .width) (changeTurn at (changeTo change shape regs rs2 rs3) t) memory₀ memory i
+Inv-loop change t rs2 rs3 shape regs memory₀ at out₀ rest₀ memory out rest =
+    Walked (shape .width) at (changeTo change shape regs rs2 rs3) t memory₀ memory out rest
 
 abbrev μ-loop : tie.MeasureT-loop
-μ-loop change t rs2 rs3 shape regs memory₀ at out₀ width i₀ memory out i = width - i
+μ-loop change t rs2 rs3 shape regs memory₀ at out₀ rest₀ memory out rest = rest
 
--- both registers of the lane stand in the buffer
-inside : (z : tie.After-slot2 Inv-loop μ-loop) → z .before .slot .result < length (z .before .before .before .before .before .before .args .regs .now)
-inside z = slot-in (z .before .before .before .before .before .before .pre .0) _ _ (z .before .slot .ensures) (omega arith)
+-- the lane whose turn it is
+here : (z : tie.After-lowest Inv-loop μ-loop)
+    → Lowest (z .before .before .before .before .before .before .before .args .shape .width) (z .before .before .before .before .before .before .before .args .t)
+    (z .before .before .loop .inv .next) (z .lowest .result)
+here z =
+    waiting-lowest (z .before .before .loop .inv .waiting) widest _ (z .before .before .before .before .before .before .before .pre .0 .narrow)
+    (omega arith) (z .lowest .ensures)
 
-inside-second : (z : tie.After-slot2 Inv-loop μ-loop) → z .slot2 .result < length (z .before .before .before .before .before .before .args .regs .now)
-inside-second z = slot-in (z .before .before .before .before .before .before .pre .1) _ _ (z .slot2 .ensures) (omega arith)
+first-requires : tie.Need-first-requires Inv-loop μ-loop
+first-requires c κs = search needs
+
+meet-requires : tie.Need-meet-requires Inv-loop μ-loop
+meet-requires c κs = search needs
 
 loop-holds : tie.Need-loop-holds Inv-loop μ-loop
-loop-holds c = (filled-none _ (c .before .before .pre .0 .narrow), turned-none _ _)
+loop-holds c =
+    let a = c .before .before .before .before in
+    walked-none _ _ _ _ _ _ (a .pre .0 .narrow) (c .meet .ensures) (c .before .first .ensures)
+
+-- it is below the widest wave's lanes, and both its registers stand in the buffer
+narrow : (z : tie.After-lowest Inv-loop μ-loop) → z .lowest .result < widest
+narrow z = omega (arith, here z .low, z .before .before .before .before .before .before .before .pre .0 .narrow)
+
+inside : (z : tie.After-slot2 Inv-loop μ-loop)
+    → z .before .slot .result < length (z .before .before .before .before .before .before .before .before .before .args .regs .now)
+inside z =
+    slot-in (z .before .before .before .before .before .before .before .before .before .pre .0) _ _ (z .before .slot .ensures)
+    (here (z .before .before) .low)
+
+inside-second : (z : tie.After-slot2 Inv-loop μ-loop)
+    → z .slot2 .result < length (z .before .before .before .before .before .before .before .before .before .args .regs .now)
+inside-second z =
+    slot-in (z .before .before .before .before .before .before .before .before .before .pre .1) _ _ (z .slot2 .ensures)
+    (here (z .before .before) .low)
+
+lowest-requires : tie.Need-lowest-requires Inv-loop μ-loop
+lowest-requires c κs = search needs
 
 slot-requires : tie.Need-slot-requires Inv-loop μ-loop
 slot-requires c κs = search needs
@@ -41,83 +70,78 @@ slot-requires-2 c κs = search needs
 cast-k : tie.Need-cast-k Inv-loop μ-loop
 cast-k c = omega arith
 
-picks-requires : tie.Need-picks-requires Inv-loop μ-loop
-picks-requires c κs = omega arith
+mul-word : tie.Need-mul-word Inv-loop μ-loop
+mul-word c = omega (arith, narrow (c .before .before .before))
 
-mul-word-found : tie.Need-mul-word-found Inv-loop μ-loop
-mul-word-found c = omega arith
+array-read-word : tie.Need-array-read-word Inv-loop μ-loop
+array-read-word c = omega (arith, narrow (c .before .before .before))
 
-array-read-word-found : tie.Need-array-read-word-found Inv-loop μ-loop
-array-read-word-found c = omega arith
-
-word-found-requires : tie.Need-word-found-requires Inv-loop μ-loop
-word-found-requires c κs = search needs
+word-requires : tie.Need-word-requires Inv-loop μ-loop
+word-requires c κs = search needs
 
 mul-changed : tie.Need-mul-changed Inv-loop μ-loop
-mul-changed c = let h = inside (c .before .before .before) in omega arith
+mul-changed c = let h = inside (c .before .before) in omega arith
 
 shared-slice-read-changed : tie.Need-shared-slice-read-changed Inv-loop μ-loop
-shared-slice-read-changed c = inside (c .before .before .before .before)
+shared-slice-read-changed c = inside (c .before .before .before)
 
 mul-changed-2 : tie.Need-mul-changed-2 Inv-loop μ-loop
-mul-changed-2 c = let h = inside-second (c .before .before .before .before) in omega arith
+mul-changed-2 c = let h = inside-second (c .before .before .before) in omega arith
 
 shared-slice-read-changed-2 : tie.Need-shared-slice-read-changed-2 Inv-loop μ-loop
-shared-slice-read-changed-2 c = inside-second (c .before .before .before .before .before)
+shared-slice-read-changed-2 c = inside-second (c .before .before .before .before)
 
 changed-requires : tie.Need-changed-requires Inv-loop μ-loop
 changed-requires c κs = search needs
 
-mul-word-left : tie.Need-mul-word-left Inv-loop μ-loop
-mul-word-left c = omega arith
+mul-put-word : tie.Need-mul-put-word Inv-loop μ-loop
+mul-put-word c = omega (arith, narrow (c .before .before .before .before .before .before .before .before))
 
-array-read-word-left : tie.Need-array-read-word-left Inv-loop μ-loop
-array-read-word-left c = omega arith
+array-read-put-word : tie.Need-array-read-put-word Inv-loop μ-loop
+array-read-put-word c = omega (arith, narrow (c .before .before .before .before .before .before .before .before))
 
-word-left-requires : tie.Need-word-left-requires Inv-loop μ-loop
-word-left-requires c κs = search needs
+put-word-requires : tie.Need-put-word-requires Inv-loop μ-loop
+put-word-requires c κs = search needs
 
 mul-out : tie.Need-mul-out Inv-loop μ-loop
-mul-out c = omega arith
+mul-out c = omega (arith, narrow (c .before .before .before .before .before .before .before .before .before .before .before))
 
 array-write-out : tie.Need-array-write-out Inv-loop μ-loop
-array-write-out c = omega arith
+array-write-out c = omega (arith, narrow (c .before .before .before .before .before .before .before .before .before .before .before))
 
-add-i : tie.Need-add-i Inv-loop μ-loop
-add-i c = omega arith
+marked-requires : tie.Need-marked-requires Inv-loop μ-loop
+marked-requires c κs = narrow (c .before .before .before .before .before .before .before .before .before .before .before)
+
+without-requires : tie.Need-without-requires Inv-loop μ-loop
+without-requires c κs = search needs
 
 loop-less : tie.Need-loop-less Inv-loop μ-loop
-loop-less c = omega arith
+loop-less c =
+    let z = c .before .before .before .before .before .before .before .before .before .before .before .before .before in
+    waiting-fewer (z .before .before .loop .inv .waiting) _ _ _ (c .without .ensures) (c .before .marked .ensures) (here z)
 
 loop-again : tie.Need-loop-again Inv-loop μ-loop
 loop-again c =
-    let w = c .before .before in
-    let n = w .before .before in
+    let n = c .before .before .before .before .before .before in
     let o = n .before .before .before in
-    let s = o .before .before .before in
-    let h = s .before .before .before .loop in
-    let a = s .before .before .before .before .before .before in
-    let f = changeTo (a .args .change) (a .args .shape) (a .args .regs .now) (a .args .rs2) (a .args .rs3) in (
-      filled-more (h .inv .0) (omega arith) _
-          (o .word-found .ensures
-          ∙ found-old (a .args .t2) f (a .args .t) _ _ (h .memory) _ (o .before .before .picks .ensures) (h .inv .1 .made)),
-      turned-more (h .inv .1) (omega arith) _
-          (change-turn (a .args .t2) f (a .args .t) _ (h .memory) _ _ _ _ (o .before .before .picks .ensures) (o .word-found .ensures)
-          (n .changed .ensures
-          ∙ ap₂ (λ (x y : ℕ). changeOf (a .args .change) (o .word-found .result) x y)
-          (read-gathered (a .pre .0) _ _ (s .before .slot .ensures) (omega arith))
-          (read-gathered (a .pre .1) _ _ (s .slot2 .ensures) (omega arith)))
-          (w .word-left .ensures)),
-    )
+    let s = o .before .before in
+    let z = s .before .before in
+    let a = z .before .before .before .before .before .before .before in
+    walked-more (z .before .before .loop .inv) widest _ _ _ _ _ (z .lowest .ensures) (here z) (o .word .ensures)
+    (c .before .before .before .before .put-word .ensures
+    ∙ ap (set (z .before .before .loop .memory) _) (n .changed .ensures
+    ∙ ap₂ (λ (x y : ℕ). changeOf (a .args .change) (o .word .result) x y)
+    (read-gathered (a .pre .0) _ _ (s .before .slot .ensures) (here z .low))
+    (read-gathered (a .pre .1) _ _ (s .slot2 .ensures) (here z .low))))
+    (c .without .ensures) (c .before .marked .ensures)
 
 same-length : tie.Need-same-length Inv-loop μ-loop
 same-length c =
-    let a = c .before .before .before .before .args in
-    length-turned (length-change-turn (a .t2) (changeTo (a .change) (a .shape) (a .regs .now) (a .rs2) (a .rs3)) (a .t)) (c .before .loop .inv .1)
+    let a = c .before .before .before .before .before .before .args in
+    length-turned (length-change-turn (a .t2) (changeTo (a .change) (a .shape) (a .regs .now) (a .rs2) (a .rs3)) (a .t)) (c .before .loop .inv .turned)
 
 returns : tie.Need-returns Inv-loop μ-loop
-unfolding changesOf
-returns c = (filled-all (c .before .loop .inv .0) (omega arith), turned-all (c .before .loop .inv .1) (omega arith))
+returns c = walked-all _ (c .before .loop .inv) (omega arith)
 
 pub change-lanes-spec : {M : Type 1} → statement M
 change-lanes-spec =
@@ -125,25 +149,28 @@ change-lanes-spec =
     (tie.spec
     Inv-loop
     μ-loop
+    first-requires
+    meet-requires
     loop-holds
+    lowest-requires
     slot-requires
     slot-requires-2
     cast-k
-    picks-requires
-    mul-word-found
-    array-read-word-found
-    word-found-requires
+    mul-word
+    array-read-word
+    word-requires
     mul-changed
     shared-slice-read-changed
     mul-changed-2
     shared-slice-read-changed-2
     changed-requires
-    mul-word-left
-    array-read-word-left
-    word-left-requires
+    mul-put-word
+    array-read-put-word
+    put-word-requires
     mul-out
     array-write-out
-    add-i
+    marked-requires
+    without-requires
     loop-less
     loop-again
     same-length

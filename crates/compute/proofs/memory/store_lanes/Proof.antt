@@ -1,5 +1,4 @@
 -- `compute::memory::store_lanes` meets its contract: at turn i the lanes below i have stored.
-use mathlib.Core.Path.{refl}
 use mathlib.Core.List.{List}
 use Prim.Native.Nat.{ℕ, _-_, _<_}
 use native.Mathlib.Omega.{arith}
@@ -11,16 +10,16 @@ use Rattle.compute.specs.Registers.{gatherOf}
 use Rattle.compute.specs.Memory.{changeTurn, changesOf}
 use Rattle.compute.proofs.Slots.{slot-in}
 use Rattle.compute.proofs.Lanewise.{read-gathered}
-use Rattle.compute.proofs.Changing.{change-turn, length-change-turn}
+use Rattle.compute.proofs.Changing.{store-turn, length-change-turn}
 use Rattle.compute.proofs.memory.store_lanes.Statement.{statement}
 use Rattle.compute.proofs.memory.store_lanes.Tie as tie
 
--- what lane i leaves of the word that it finds
-abbrev value : Shape → List ℕ → ℕ → ℕ → ℕ → ℕ
-value shape regs rd i old = getD (gatherOf shape regs rd) i 0
+-- what lane i stores
+abbrev value : Shape → List ℕ → ℕ → ℕ → ℕ
+value shape regs rd i = getD (gatherOf shape regs rd) i 0
 
 abbrev Inv-loop : tie.InvT-loop
-Inv-loop t rd shape regs memory₀ at width i₀ memory i = Turned (shape .width) (changeTurn at (value shape regs rd) t) memory₀ memory i
+Inv-loop t rd shape regs memory₀ at width i₀ memory i = Turned (shape .width) (changeTurn at (λ i old. value shape regs rd i) t) memory₀ memory i
 
 abbrev μ-loop : tie.MeasureT-loop
 μ-loop t rd shape regs memory₀ at width i₀ memory i = width - i
@@ -38,23 +37,23 @@ slot-requires c κs = search needs
 cast-k : tie.Need-cast-k Inv-loop μ-loop
 cast-k c = omega arith
 
-mul-word-left : tie.Need-mul-word-left Inv-loop μ-loop
-mul-word-left c = omega arith
+mul-put-picked : tie.Need-mul-put-picked Inv-loop μ-loop
+mul-put-picked c = omega arith
 
-array-read-word-left : tie.Need-array-read-word-left Inv-loop μ-loop
-array-read-word-left c = omega (arith, c .before .before .before .before .before .before .pre .narrow)
+array-read-put-picked : tie.Need-array-read-put-picked Inv-loop μ-loop
+array-read-put-picked c = omega (arith, c .before .before .before .before .before .before .pre .narrow)
 
-mul-word-left-2 : tie.Need-mul-word-left-2 Inv-loop μ-loop
-mul-word-left-2 c = let h = inside (c .before) in omega arith
+mul-put-picked-2 : tie.Need-mul-put-picked-2 Inv-loop μ-loop
+mul-put-picked-2 c = let h = inside (c .before) in omega arith
 
-shared-slice-read-word-left : tie.Need-shared-slice-read-word-left Inv-loop μ-loop
-shared-slice-read-word-left c = inside (c .before .before)
+shared-slice-read-put-picked : tie.Need-shared-slice-read-put-picked Inv-loop μ-loop
+shared-slice-read-put-picked c = inside (c .before .before)
 
 picks-requires : tie.Need-picks-requires Inv-loop μ-loop
 picks-requires c κs = omega (arith, c .before .before .before .before .before .before .before .pre .narrow)
 
-word-left-requires : tie.Need-word-left-requires Inv-loop μ-loop
-word-left-requires c κs = search needs
+put-picked-requires : tie.Need-put-picked-requires Inv-loop μ-loop
+put-picked-requires c κs = search needs
 
 add-i : tie.Need-add-i Inv-loop μ-loop
 add-i c = omega arith
@@ -69,13 +68,13 @@ loop-again c =
     let h = z .before .before .loop in
     let a = z .before .before .before .before .before .args in
     turned-more (h .inv) (omega arith) _
-    (change-turn (a .t1) (value (a .shape) (a .regs .now) (a .rd)) (a .t) _ (h .memory) _ _ _ _ (w .before .picks .ensures) refl
-    (read-gathered (z .before .before .before .before .before .pre) _ _ (z .slot .ensures) (omega arith)) (w .word-left .ensures))
+    (store-turn (a .t1) (value (a .shape) (a .regs .now) (a .rd)) (a .t) _ (h .memory) _ _ _ (w .before .picks .ensures)
+    (read-gathered (z .before .before .before .before .before .pre) _ _ (z .slot .ensures) (omega arith)) (w .put-picked .ensures))
 
 same-length : tie.Need-same-length Inv-loop μ-loop
 same-length c =
     let a = c .before .before .before .before .args in
-    length-turned (length-change-turn (a .t1) (value (a .shape) (a .regs .now) (a .rd)) (a .t)) (c .before .loop .inv)
+    length-turned (length-change-turn (a .t1) (λ i old. value (a .shape) (a .regs .now) (a .rd) i) (a .t)) (c .before .loop .inv)
 
 returns : tie.Need-returns Inv-loop μ-loop
 unfolding changesOf
@@ -90,12 +89,12 @@ store-lanes-spec =
     loop-holds
     slot-requires
     cast-k
-    mul-word-left
-    array-read-word-left
-    mul-word-left-2
-    shared-slice-read-word-left
+    mul-put-picked
+    array-read-put-picked
+    mul-put-picked-2
+    shared-slice-read-put-picked
     picks-requires
-    word-left-requires
+    put-picked-requires
     add-i
     loop-less
     loop-again
