@@ -1,7 +1,8 @@
 -- The laws of `slot`: within W lanes of R registers no two stand at one place, and all stand below W×R. All else goes by these.
 use mathlib.Core.Path.{_≡_, sym, ap, _∙_}
 use Prim.Native.Nat.{ℕ, suc, _+_, _*_, _/_, _%_, _^_, _<_}
-use native.Mathlib.Nat.{mul-add-div-right, mul-add-mod-self-right, div-eq-of-lt, mod-eq-of-lt, mul-le-mul-left, mul-le-mul-right, add-zero, suc-mul, lt-of-lt-of-le, le-of-lt}
+use native.Mathlib.Nat.{mul-add-div-right, mul-add-mod-self-right, div-eq-of-lt, mod-eq-of-lt, mul-le-mul-left, mul-le-mul-right}
+use native.Mathlib.Nat.{add-zero, suc-mul, lt-of-lt-of-le, le-of-lt}
 use native.Mathlib.Omega.{arith}
 use lib.Pow.{pow-add}
 use lib.ListN.{length}

@@ -54,7 +54,8 @@ compare-results-requires c κs =
     (rs1-stands z _ e refl, rs2-stands z _ e refl)
 
 predicate-after-requires : tie.Need-predicate-after-requires
-predicate-after-requires c κs = slim (c .before .before .before .before .before .before .before .before .before) _ (c .before .before .before .before .op2 .given .1)
+predicate-after-requires c κs =
+    slim (c .before .before .before .before .before .before .before .before .before) _ (c .before .before .before .before .op2 .given .1)
 
 enum-known-op-3 : tie.Need-enum-known-op-3
 enum-known-op-3 c = search needs
@@ -143,7 +144,8 @@ same-length c = search needs
 returns : tie.Need-returns
 returns c =
     let a = c .before .before .before .before .before .before .before .before .before .before .args in
-    arm-two (a .shape) (a .x) (a .t) (a .predicate) (a .regs .now) (a .device .now) (a .local .now) _ (c .before .before .before .before .before .op .given .1) _ _ (c .before .before .carry-two .ensures)
+    arm-two (a .shape) (a .x) (a .t) (a .predicate) (a .regs .now) (a .device .now) (a .local .now) _
+    (c .before .before .before .before .before .op .given .1) _ _ (c .before .before .carry-two .ensures)
 
 same-length-2 : tie.Need-same-length-2
 same-length-2 c = search needs
@@ -151,7 +153,9 @@ same-length-2 c = search needs
 returns-2 : tie.Need-returns-2
 returns-2 c =
     let a = c .before .before .before .before .before .before .before .before .before .before .args in
-    arm-compare (a .shape) (a .x) (a .t) (a .predicate) (a .regs .now) (a .device .now) (a .local .now) _ (c .before .before .before .before .before .op2 .given .1) _ _ _ (c .before .before .before .no-faults .ensures) (c .before .compare-results .ensures) (c .predicate-after .ensures)
+    arm-compare (a .shape) (a .x) (a .t) (a .predicate) (a .regs .now) (a .device .now) (a .local .now) _
+    (c .before .before .before .before .before .op2 .given .1) _ _ _ (c .before .before .before .no-faults .ensures)
+    (c .before .compare-results .ensures) (c .predicate-after .ensures)
 
 same-length-3 : tie.Need-same-length-3
 same-length-3 c = search needs
@@ -159,7 +163,9 @@ same-length-3 c = search needs
 returns-3 : tie.Need-returns-3
 returns-3 c =
     let a = c .before .before .before .before .before .before .before .before .before .before .before .before .args in
-    arm-one (a .shape) (a .x) (a .t) (a .predicate) (a .regs .now) (a .device .now) (a .local .now) _ (c .before .before .before .before .before .before .before .op3 .given .1) _ _ _ (c .before .before .before .before .one-results .ensures) (c .before .before .carry-value .ensures)
+    arm-one (a .shape) (a .x) (a .t) (a .predicate) (a .regs .now) (a .device .now) (a .local .now) _
+    (c .before .before .before .before .before .before .before .op3 .given .1)
+    _ _ _ (c .before .before .before .before .one-results .ensures) (c .before .before .carry-value .ensures)
 
 same-length-4 : tie.Need-same-length-4
 same-length-4 c = search needs
@@ -167,7 +173,9 @@ same-length-4 c = search needs
 returns-4 : tie.Need-returns-4
 returns-4 c =
     let a = c .before .before .before .before .before .before .before .before .before .before .args in
-    arm-special (a .shape) (a .x) (a .t) (a .predicate) (a .regs .now) (a .device .now) (a .local .now) (c .before .before .before .before .before .enum-told .given .1) _ _ _ (c .before .before .before .before .special-results .ensures) (c .before .before .carry-value2 .ensures)
+    arm-special (a .shape) (a .x) (a .t) (a .predicate) (a .regs .now) (a .device .now) (a .local .now)
+    (c .before .before .before .before .before .enum-told .given .1) _ _ _ (c .before .before .before .before .special-results .ensures)
+    (c .before .before .carry-value2 .ensures)
 
 same-length-5 : tie.Need-same-length-5
 same-length-5 c = search needs
@@ -175,7 +183,9 @@ same-length-5 c = search needs
 returns-5 : tie.Need-returns-5
 returns-5 c =
     let a = c .before .before .before .before .before .before .before .before .before .before .args in
-    arm-number (a .shape) (a .x) (a .t) (a .predicate) (a .regs .now) (a .device .now) (a .local .now) (c .before .before .before .before .before .enum-told2 .given .1) _ _ _ (c .before .before .before .before .number-results .ensures) (c .before .before .carry-value3 .ensures)
+    arm-number (a .shape) (a .x) (a .t) (a .predicate) (a .regs .now) (a .device .now) (a .local .now)
+    (c .before .before .before .before .before .enum-told2 .given .1) _ _ _ (c .before .before .before .before .number-results .ensures)
+    (c .before .before .carry-value3 .ensures)
 
 same-length-6 : tie.Need-same-length-6
 same-length-6 c = search needs
@@ -188,8 +198,11 @@ same-length-8 c = search needs
 
 returns-6 : tie.Need-returns-6
 returns-6 c =
-    let a = c .before .before .before .before .before .before .before .before .before .before .before .before .args in
-    arm-load (a .shape) (a .x) (a .t) (a .predicate) (a .regs .now) (a .device .now) (a .local .now) _ (c .before .before .before .before .before .before .before .op4 .given .1) (slim (c .before .before .before .before .before .before .before .before .before .before .before .before) _ (c .before .before .before .before .before .before .before .op4 .given .1)) _ _ (c .before .before .carry-load .ensures)
+    let z = c .before .before .before .before .before .before .before .before .before .before .before .before in
+    let e = c .before .before .before .before .before .before .before .op4 .given .1 in
+    let a = z .args in
+    arm-load (a .shape) (a .x) (a .t) (a .predicate) (a .regs .now) (a .device .now) (a .local .now) _ e (slim z _ e) _ _
+    (c .before .before .carry-load .ensures)
 
 same-length-9 : tie.Need-same-length-9
 same-length-9 c = search needs
@@ -202,8 +215,11 @@ same-length-11 c = search needs
 
 returns-7 : tie.Need-returns-7
 returns-7 c =
-    let a = c .before .before .before .before .before .before .before .before .before .before .before .before .before .before .args in
-    arm-store (a .shape) (a .x) (a .t) (a .predicate) (a .regs .now) (a .device .now) (a .local .now) _ (c .before .before .before .before .before .before .before .before .before .op5 .given .1) (slim (c .before .before .before .before .before .before .before .before .before .before .before .before .before .before) _ (c .before .before .before .before .before .before .before .before .before .op5 .given .1)) _ _ _ (c .before .before .before .before .carry-store .ensures)
+    let z = c .before .before .before .before .before .before .before .before .before .before .before .before .before .before in
+    let e = c .before .before .before .before .before .before .before .before .before .op5 .given .1 in
+    let a = z .args in
+    arm-store (a .shape) (a .x) (a .t) (a .predicate) (a .regs .now) (a .device .now) (a .local .now) _ e (slim z _ e) _ _ _
+    (c .before .before .before .before .carry-store .ensures)
 
 same-length-12 : tie.Need-same-length-12
 same-length-12 c = search needs
@@ -214,7 +230,9 @@ same-length-13 c = search needs
 returns-8 : tie.Need-returns-8
 returns-8 c =
     let a = c .before .before .before .before .before .before .before .before .before .before .before .before .before .args in
-    arm-atomic (a .shape) (a .x) (a .t) (a .predicate) (a .regs .now) (a .device .now) (a .local .now) _ (c .before .before .before .before .before .before .before .before .op6 .given .1) _ _ _ (c .before .before .before .before .carry-change .ensures)
+    arm-atomic (a .shape) (a .x) (a .t) (a .predicate) (a .regs .now) (a .device .now) (a .local .now) _
+    (c .before .before .before .before .before .before .before .before .op6 .given .1)
+    _ _ _ (c .before .before .before .before .carry-change .ensures)
 
 same-length-14 : tie.Need-same-length-14
 same-length-14 c = search needs
@@ -225,12 +243,15 @@ same-length-15 c = search needs
 returns-9 : tie.Need-returns-9
 returns-9 c =
     let a = c .before .before .before .before .before .before .before .before .before .before .before .before .args in
-    arm-swap (a .shape) (a .x) (a .t) (a .predicate) (a .regs .now) (a .device .now) (a .local .now) (c .before .before .before .before .before .before .before .enum-told3 .given .1) _ _ _ (c .before .before .before .before .carry-change2 .ensures)
+    arm-swap (a .shape) (a .x) (a .t) (a .predicate) (a .regs .now) (a .device .now) (a .local .now)
+    (c .before .before .before .before .before .before .before .enum-told3 .given .1)
+    _ _ _ (c .before .before .before .before .carry-change2 .ensures)
 
 returns-10 : tie.Need-returns-10
 returns-10 c =
     let a = c .before .before .before .before .before .before .args in
-    arm-control (a .shape) (a .x) (a .t) (a .predicate) (a .regs .now) (a .device .now) (a .local .now) _ (c .before .enum-told4 .given .1) _ (c .no-faults2 .ensures)
+    arm-control (a .shape) (a .x) (a .t) (a .predicate) (a .regs .now) (a .device .now) (a .local .now) _
+    (c .before .enum-told4 .given .1) _ (c .no-faults2 .ensures)
 
 pub carry-spec : {M : Type 1} → statement M
 carry-spec =

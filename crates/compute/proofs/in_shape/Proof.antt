@@ -13,7 +13,9 @@ cast-room-2 : tie.Need-cast-room-2
 cast-room-2 c = search needs
 
 mul-room : tie.Need-mul-room
-mul-room c = let a = c .before .before .before in record { fits = product-lt 32 {a = a .args .shape .width} {b = a .args .shape .registers} (omega arith) (omega arith) }
+mul-room c =
+    let s = c .before .before .before .args .shape in
+    record { fits = product-lt 32 {a = s .width} {b = s .registers} (omega arith) (omega arith) }
 
 registers-below-requires : tie.Need-registers-below-requires
 registers-below-requires c κs = search needs

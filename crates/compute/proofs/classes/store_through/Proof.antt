@@ -5,8 +5,8 @@ use Prim.Native.Nat.{ℕ}
 use lib.ListN.{length, getD}
 use borrow.Author.Needs.{needs}
 use Rattle.compute.specs.Registers.{gatherOf}
-use Rattle.compute.specs.Memory.{addressesOf, changesOf}
-use Rattle.compute.specs.Classes.{addressFaults}
+use Rattle.compute.specs.Memory.{changesOf}
+use Rattle.compute.specs.Classes.{addressFaults, reached}
 use Rattle.compute.proofs.Settling.{settled-changed, settled-same}
 use Rattle.compute.proofs.classes.store_through.Statement.{statement}
 use Rattle.compute.proofs.classes.store_through.Tie as tie
@@ -15,7 +15,7 @@ use Rattle.compute.proofs.classes.store_through.Tie as tie
 faults-are : (z : tie.After-address-faults)
     → let a = z .before .before .before .before .args in
     z .address-faults .result
-    ≡ addressFaults (a .space) (a .shape .width) (addressesOf (a .shape .width) (gatherOf (a .shape) (a .regs .now) (a .rs1)) (a .offset)) (length (a .memory .now)) (a .t)
+    ≡ addressFaults (a .space) (a .shape .width) (reached (a .shape) (a .regs .now) (a .rs1) (a .offset)) (length (a .memory .now)) (a .t)
 faults-are z =
     let a = z .before .before .before .before .args in
     z .address-faults .ensures

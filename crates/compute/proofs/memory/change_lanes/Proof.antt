@@ -25,11 +25,11 @@ abbrev μ-loop : tie.MeasureT-loop
 
 -- the lane whose turn it is
 here : (z : tie.After-lowest Inv-loop μ-loop)
-    → Lowest (z .before .before .before .before .before .before .before .args .shape .width) (z .before .before .before .before .before .before .before .args .t)
-    (z .before .before .loop .inv .next) (z .lowest .result)
+    → let a = z .before .before .before .before .before .before .before .args in
+    Lowest (a .shape .width) (a .t) (z .before .before .loop .inv .next) (z .lowest .result)
 here z =
-    waiting-lowest (z .before .before .loop .inv .waiting) widest _ (z .before .before .before .before .before .before .before .pre .0 .narrow)
-    (omega arith) (z .lowest .ensures)
+    let a = z .before .before .before .before .before .before .before in
+    waiting-lowest (z .before .before .loop .inv .waiting) widest _ (a .pre .0 .narrow) (omega arith) (z .lowest .ensures)
 
 first-requires : tie.Need-first-requires Inv-loop μ-loop
 first-requires c κs = search needs
@@ -138,7 +138,8 @@ loop-again c =
 same-length : tie.Need-same-length Inv-loop μ-loop
 same-length c =
     let a = c .before .before .before .before .before .before .args in
-    length-turned (length-change-turn (a .t2) (changeTo (a .change) (a .shape) (a .regs .now) (a .rs2) (a .rs3)) (a .t)) (c .before .loop .inv .turned)
+    length-turned (length-change-turn (a .t2) (changeTo (a .change) (a .shape) (a .regs .now) (a .rs2) (a .rs3)) (a .t))
+    (c .before .loop .inv .turned)
 
 returns : tie.Need-returns Inv-loop μ-loop
 returns c = walked-all _ (c .before .loop .inv) (omega arith)

@@ -11,10 +11,14 @@ cast-result : tie.Need-cast-result
 cast-result c = search needs
 
 mul-result : tie.Need-mul-result
-mul-result c = record { fits = omega (arith, slot-fits 32 (c .before .args .lane) (c .before .args .shape .registers) 0 (c .before .fits .lane .fits) (omega arith) (omega arith)) }
+mul-result c =
+    let a = c .before .args in
+    record { fits = omega (arith, slot-fits 32 (a .lane) (a .shape .registers) 0 (c .before .fits .lane .fits) (omega arith) (omega arith)) }
 
 add-result : tie.Need-add-result
-add-result c = record { fits = slot-fits 32 (c .before .args .lane) (c .before .args .shape .registers) (c .before .args .register) (c .before .fits .lane .fits) (omega arith) (omega arith) }
+add-result c =
+    let a = c .before .args in
+    record { fits = slot-fits 32 (a .lane) (a .shape .registers) (a .register) (c .before .fits .lane .fits) (omega arith) (omega arith) }
 
 returns : tie.Need-returns
 unfolding slot
