@@ -3,11 +3,11 @@
 use mathlib.Core.Path.{_≡_, refl, ap, _∙_}
 use mathlib.Core.Bool.{true, false, _&&_}
 use mathlib.Core.List.{List}
-use Prim.Native.Nat.{ℕ, _+_, _^_, _≤_, _<_, min}
+use Prim.Native.Nat.{ℕ, _+_, _≤_, _<_, min}
 use native.Mathlib.Nat.{min-eq-left}
 use native.Mathlib.Omega.{arith}
 use lib.Bits.{bitAnd}
-use lib.ListN.{length, getD, set, replicate}
+use lib.ListN.{getD, set, replicate}
 use Rattle.ground.proofs.Turns.{Turned, turned-none, turned-more, turned-idle, turned-all}
 use Rattle.lanes.specs.Sets.{widest, has, without, first, only, lowest}
 use Rattle.lanes.proofs.LowestLanes.{Waiting, waiting-all, Lowest, waiting-less, waiting-none}
