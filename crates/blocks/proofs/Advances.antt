@@ -14,7 +14,8 @@ use Rattle.blocks.specs.declared.places.Moved.{Moved}
 use Rattle.blocks.specs.Code.{Code}
 use Rattle.blocks.specs.Scan.{nesting, Part, Open, open-at, Next, over, go, ended, react, step}
 use Rattle.blocks.specs.Rules.{turnOf}
-use Rattle.blocks.specs.Levels.{innermost, around, Stands}
+use Rattle.blocks.specs.Levels.{around, Stands}
+use Rattle.blocks.specs.Nesting.{innermost}
 use Rattle.blocks.specs.Stacks.{Holds, Turned, Advances, partOf}
 use Rattle.blocks.proofs.Widths.{Fits}
 use Rattle.blocks.proofs.Passes.{step-in, step-past}

@@ -16,7 +16,8 @@ use Rattle.blocks.specs.Code.{Code}
 use Rattle.blocks.specs.Scan.{nesting, Part, before, after, looping, Open, open-at, Next, over, go, stray, opens, in-loop, ended, react}
 use Rattle.blocks.specs.OpenAt.{loops}
 use Rattle.blocks.specs.Rules.{opening, turnOf}
-use Rattle.blocks.specs.Levels.{insideOf, innermost, around, Stands}
+use Rattle.blocks.specs.Levels.{around, Stands}
+use Rattle.blocks.specs.Nesting.{insideOf, innermost}
 use Rattle.blocks.proofs.Widths.{Ok, Fits}
 
 -- where a turn that goes on leads

@@ -9,5 +9,7 @@ pub mod Walks
 pub mod Induction
 pub mod Openers
 pub mod Theorems
+pub mod Nested
+pub mod Breaking
 pub mod Instructions
 pub mod OneAnswer

@@ -12,7 +12,8 @@ use Rattle.blocks.specs.declared.structure.Checked.the-variants.{Fine, R
 use Rattle.blocks.specs.Code.{Code}
 use Rattle.blocks.specs.Scan.{nesting, Open, open-at, over, go, in-loop, ended, react, run, checkOf}
 use Rattle.blocks.specs.Rules.{turnOf}
-use Rattle.blocks.specs.Levels.{innermost, around, Stands, follows, LevelSays}
+use Rattle.blocks.specs.Levels.{around, Stands, follows, LevelSays}
+use Rattle.blocks.specs.Nesting.{innermost}
 use Rattle.blocks.proofs.Widths.{Fits}
 use Rattle.blocks.proofs.Passes.{run-to, run-past}
 use Rattle.blocks.proofs.Judging.{Gone, Entered, told, TurnOk, turned-ok, NotClose, nothing-closes}

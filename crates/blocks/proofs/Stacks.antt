@@ -12,7 +12,8 @@ use Rattle.blocks.specs.declared.structure.Checked.the-variants.{Fine, R
 use Rattle.blocks.specs.declared.places.Stack.{Stack}
 use Rattle.blocks.specs.Scan.{nesting, Part, before, after, looping, Open, open-at, in-loop, ended}
 use Rattle.blocks.specs.OpenAt.{part-number, number-of, opener-of, one-if-loop, loops, filled, stackOf}
-use Rattle.blocks.specs.Levels.{insideOf, innermost, around}
+use Rattle.blocks.specs.Levels.{around}
+use Rattle.blocks.specs.Nesting.{insideOf, innermost}
 use Rattle.blocks.specs.Stacks.{Holds, Turned, numberOf, insideFrom, partOf}
 
 -- a stack that holds the blocks is their stack

@@ -22,7 +22,7 @@ use Rattle.blocks.proofs.Passes.{step-in, run-step, run-to, run-past}
 use Rattle.blocks.proofs.Induction.{along, open-at-start, going-on, found-within}
 use Rattle.blocks.proofs.Openers.{going-back}
 
-refused-not-fine : {A : Type 0} (n p : ℕ) → Refused n p ≡ Fine → A
+pub refused-not-fine : {A : Type 0} (n p : ℕ) → Refused n p ≡ Fine → A
 refused-not-fine n p e = let z : _≡_ {A = ℕ} 0 1 = cc in absurd (omega arith)
 
 -- WHERE AN INSTRUCTION MAY STAND AND LEAD, with these blocks open. Where it would be stray there is no proof.

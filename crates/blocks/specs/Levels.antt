@@ -8,17 +8,8 @@ use Rattle.blocks.specs.declared.rules.Inside.{Inside}
 use Rattle.blocks.specs.declared.structure.LevelEnd.{LevelEnd}
 use Rattle.blocks.specs.declared.structure.Checked.{Checked}
 use Rattle.blocks.specs.Code.{Code}
-use Rattle.blocks.specs.Scan.{nesting, Part, before, after, looping, Open, open-at, in-loop, ended, run}
-
-abbrev pub insideOf : Part → Inside
-insideOf before = Inside.Before
-insideOf after = Inside.After
-insideOf looping = Inside.Loop
-
--- what the innermost open block is
-unfoldable pub innermost : List Open → Inside
-innermost [] = Inside.Nothing
-innermost (open-at part p ∷ o) = insideOf part
+use Rattle.blocks.specs.Scan.{nesting, Open, open-at, in-loop, ended, run}
+use Rattle.blocks.specs.Nesting.{innermost}
 
 -- the blocks around the innermost
 unfoldable pub around : List Open → List Open

@@ -10,7 +10,8 @@ use Rattle.blocks.specs.declared.places.Stack.{Stack}
 use Rattle.blocks.specs.declared.places.Moved.{Moved}
 use Rattle.blocks.specs.Scan.{nesting, Part, before, after, looping, Open, Next, over, go, ended}
 use Rattle.blocks.specs.OpenAt.{part-number, number-of, opener-of, loops, filled}
-use Rattle.blocks.specs.Levels.{innermost, around}
+use Rattle.blocks.specs.Levels.{around}
+use Rattle.blocks.specs.Nesting.{innermost}
 
 -- a stack that holds these blocks
 pub record Holds (s : Stack) (o : List Open) : Type 0 where

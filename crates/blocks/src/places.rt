@@ -10,7 +10,8 @@ ghost use Prim.Native.Nat.{_≤_, _<_};
 ghost use Rattle.blocks.specs.Code.{codeOf};
 ghost use Rattle.blocks.specs.Scan.{nesting, Open, open-at, step};
 ghost use Rattle.blocks.specs.OpenAt.{nowhere, openAt, shown};
-ghost use Rattle.blocks.specs.Levels.{innermost, around};
+ghost use Rattle.blocks.specs.Levels.{around};
+ghost use Rattle.blocks.specs.Nesting.{innermost};
 ghost use Rattle.blocks.specs.Stacks.{Holds, Turned, Advances, partOf, numberOf, insideFrom};
 
 // The open blocks, outermost first: the part (1 before ELSE, 2 after, 3 loop) and the opener's place of each, 0 past the depth; and how many are loops.

@@ -1,0 +1,189 @@
+-- Code passes the check exactly if its blocks nest, and the blocks open at a place are those that the code has open there: whole blocks
+-- leave the open blocks as they were, and each step of the pass keeps to what the code has open.
+use Prim.Native.Nat.{ℕ, zero, suc, _+_, _<_}
+use native.Mathlib.Omega.{arith}
+use native.Mathlib.Decide.{decLt}
+use mathlib.Core.Path.{_≡_, refl, ap, _∙_}
+use mathlib.Core.Logic.{_↔_, dite}
+use mathlib.Core.Bool.{Bool, true, false, cond}
+use mathlib.Core.List.{List, [], _∷_}
+use lib.ListN.{length}
+use lib.Dec.{ltb}
+use borrow.Author.Tests.{lt-ltb, le-ltb}
+use Rattle.blocks.specs.declared.item.Item.{Item}
+use Rattle.blocks.specs.declared.structure.Checked.the-variants.{Fine, Refused}
+use Rattle.blocks.specs.Code.{Code}
+use Rattle.blocks.specs.Scan.{nesting, Part, before, after, looping, Open, open-at, in-loop}
+use Rattle.blocks.specs.Scan.{Next, over, go, stray, ended, react, step, carry, run, checkOf}
+use Rattle.blocks.specs.OpenAt.{there, openAt}
+use Rattle.blocks.specs.Nesting.{Has, Whole, nothing, plain, jump, choice, choice-of-two, loop, Nested}
+use Rattle.blocks.specs.Nesting.{Opened, outside, in-first, in-second, in-body}
+use Rattle.blocks.proofs.Widths.{Fits}
+use Rattle.blocks.proofs.Passes.{step-in, step-past, run-step, run-past}
+use Rattle.blocks.proofs.Induction.{along, open-at-start, going-on}
+use Rattle.blocks.proofs.Theorems.{none-at-the-end}
+
+-- ---- what each step of the pass keeps, whole blocks keep
+
+module _ (code : Code) (P : ℕ → List Open → Type 0)
+    (kept : (at : ℕ) (o : List Open) (a : ℕ) (q : List Open) → P at o → step code at o ≡ go a q → P a q) where
+  moved : (i : Item) (at : ℕ) (o : List Open) (a : ℕ) (q : List Open) → Has code at i → react i at o ≡ go a q → P at o → P a q
+  moved i at o a q h e p = kept at o a q p (step-in code at o (h .0) ∙ ap (λ (j : Item). react j at o) (h .1) ∙ e)
+
+  entered : (i : Item) (part : Part) (at : ℕ) (o : List Open) → Has code at i
+      → react i at o ≡ cond (ltb (length o) nesting) (go (at + 1) (open-at part at ∷ o)) (over (Refused 9 at)) → length o < nesting
+      → P at o → P (at + 1) (open-at part at ∷ o)
+  entered i part at o h e b = moved i at o (at + 1) (open-at part at ∷ o) h (e ∙ rw (lt-ltb (length o) nesting b) refl)
+
+  passed : (room : ℕ) (looped : Bool) (at to : ℕ) → Whole code room looped at to → (o : List Open) → length o + room ≡ nesting → in-loop o ≡ looped
+      → P at o → P to o
+  unfolding react in-loop
+  passed room looped at to nothing o r l p = p
+  passed room looped at to (plain w h rest) o r l p =
+      passed room looped (at + w) to rest o r l (moved (Item.Plain w) at o (at + w) o h refl p)
+  passed room looped at to (jump h rest) o r l p =
+      passed room true (at + 1) to rest o r l (moved Item.Jump at o (at + 1) o h (rw l refl) p)
+  passed (suc room) looped at to (choice end h first f rest) o r l p =
+      passed (suc room) looped (end + 1) to rest o r l
+      (moved Item.Endif end (open-at before at ∷ o) (end + 1) o f refl
+      (passed room looped (at + 1) end first (open-at before at ∷ o) (omega arith) l
+      (entered Item.If before at o h refl (omega arith) p)))
+  passed (suc room) looped at to (choice-of-two other end h first g second f rest) o r l p =
+      passed (suc room) looped (end + 1) to rest o r l
+      (moved Item.Endif end (open-at after at ∷ o) (end + 1) o f refl
+      (passed room looped (other + 1) end second (open-at after at ∷ o) (omega arith) l
+      (moved Item.Else other (open-at before at ∷ o) (other + 1) (open-at after at ∷ o) g refl
+      (passed room looped (at + 1) other first (open-at before at ∷ o) (omega arith) l
+      (entered Item.If before at o h refl (omega arith) p)))))
+  passed (suc room) looped at to (loop end h body f rest) o r l p =
+      passed (suc room) looped (end + 1) to rest o r l
+      (moved Item.Endloop end (open-at looping at ∷ o) (end + 1) o f refl
+      (passed room true (at + 1) end body (open-at looping at ∷ o) (omega arith) refl
+      (entered Item.Loop looping at o h refl (omega arith) p)))
+
+  -- so it holds wherever these blocks are open
+  pub at-opened : P 0 [] → (room : ℕ) (o : List Open) (at : ℕ) → Opened code room o at → (length o + room ≡ nesting) × P at o
+  unfolding react in-loop
+  at-opened s room o at (outside w) = (refl, passed nesting false 0 at w [] refl refl s)
+  at-opened s room (open-at before p ∷ o) at (in-first _ x h w) =
+      let z = at-opened s (suc room) o p x in (
+        omega (arith, z .0),
+        passed room (in-loop o) (p + 1) at w (open-at before p ∷ o) (omega (arith, z .0)) refl
+            (entered Item.If before p o h refl (omega (arith, z .0)) (z .1)),
+      )
+  at-opened s room (open-at after p ∷ o) at (in-second _ other x h w) =
+      let z = at-opened s room (open-at before p ∷ o) other x in (
+        z .0,
+        passed room (in-loop o) (other + 1) at w (open-at after p ∷ o) (z .0) refl
+            (moved Item.Else other (open-at before p ∷ o) (other + 1) (open-at after p ∷ o) h refl (z .1)),
+      )
+  at-opened s room (open-at looping p ∷ o) at (in-body _ x h w) =
+      let z = at-opened s (suc room) o p x in (
+        omega (arith, z .0),
+        passed room true (p + 1) at w (open-at looping p ∷ o) (omega (arith, z .0)) refl
+            (entered Item.Loop looping p o h refl (omega (arith, z .0)) (z .1)),
+      )
+
+-- the room and the open blocks make up the nesting
+pub opened-room : (code : Code) (room : ℕ) (o : List Open) (at : ℕ) → Opened code room o at → length o + room ≡ nesting
+opened-room code room o at x = at-opened code (λ a q. Unit {0}) (λ at o a q p f. tt) tt room o at x .0
+
+-- ---- each step of the pass keeps to what the code has open
+
+module _ (code : Code) where
+  append : (room : ℕ) (looped : Bool) (at next to : ℕ) → Whole code room looped at next → Whole code room looped next to → Whole code room looped at to
+  append room looped at next to nothing v = v
+  append room looped at next to (plain w h rest) v = plain w h (append room looped (at + w) next to rest v)
+  append room looped at next to (jump h rest) v = jump h (append room true (at + 1) next to rest v)
+  append (suc room) looped at next to (choice end h first f rest) v = choice end h first f (append (suc room) looped (end + 1) next to rest v)
+  append (suc room) looped at next to (choice-of-two other end h first g second f rest) v =
+      choice-of-two other end h first g second f (append (suc room) looped (end + 1) next to rest v)
+  append (suc room) looped at next to (loop end h body f rest) v = loop end h body f (append (suc room) looped (end + 1) next to rest v)
+
+  -- whole blocks further
+  onward : (room : ℕ) (o : List Open) (at to : ℕ) → Opened code room o at → Whole code room (in-loop o) at to → Opened code room o to
+  unfolding in-loop
+  onward room o at to (outside w) v = outside (append nesting false 0 at to w v)
+  onward room (open-at before p ∷ o) at to (in-first _ x h w) v = in-first p x h (append room (in-loop o) (p + 1) at to w v)
+  onward room (open-at after p ∷ o) at to (in-second _ other x h w) v = in-second p other x h (append room (in-loop o) (other + 1) at to w v)
+  onward room (open-at looping p ∷ o) at to (in-body _ x h w) v = in-body p x h (append room true (p + 1) at to w v)
+
+  -- a block that closes is one whole block more
+  shut-first : (room p : ℕ) (o : List Open) (at : ℕ) → Opened code room (open-at before p ∷ o) at → Has code at Item.Endif
+      → Opened code (suc room) o (at + 1)
+  shut-first room p o at (in-first _ x h w) f = onward (suc room) o p (at + 1) x (choice at h w f nothing)
+
+  shut-second : (room p : ℕ) (o : List Open) (at : ℕ) → Opened code room (open-at after p ∷ o) at → Has code at Item.Endif
+      → Opened code (suc room) o (at + 1)
+  shut-second room p o at (in-second _ other (in-first _ x h w) g v) f = onward (suc room) o p (at + 1) x (choice-of-two other at h w g v f nothing)
+
+  shut-body : (room p : ℕ) (o : List Open) (at : ℕ) → Opened code room (open-at looping p ∷ o) at → Has code at Item.Endloop
+      → Opened code (suc room) o (at + 1)
+  shut-body room p o at (in-body _ x h w) f = onward (suc room) o p (at + 1) x (loop at h w f nothing)
+
+  -- where the pass goes on, these are the open blocks
+  abbrev pub Led : Next → Type 0
+  Led (over v) = Unit {0}
+  Led (go a q) = (room : ℕ) × Opened code room q a
+
+  led-in : (part : Part) (at room : ℕ) (o : List Open) → length o + room ≡ nesting
+      → ((inner : ℕ) → room ≡ suc inner → Opened code inner (open-at part at ∷ o) (at + 1))
+      → Led (cond (ltb (length o) nesting) (go (at + 1) (open-at part at ∷ o)) (over (Refused 9 at)))
+  led-in part at zero o l f = rw (le-ltb (length o) nesting (omega arith)) tt
+  led-in part at (suc room) o l f = rw (lt-ltb (length o) nesting (omega arith)) (room, f room refl)
+
+  led-jump : (at room : ℕ) (o : List Open) → Has code at Item.Jump → Opened code room o at → (b : Bool) → in-loop o ≡ b
+      → Led (cond b (go (at + 1) o) (stray at))
+  led-jump at room o h x true e = (room, onward room o at (at + 1) x (rw e (jump h nothing)))
+  led-jump at room o h x false e = tt
+
+  led : (i : Item) (at room : ℕ) (o : List Open) → Has code at i → Opened code room o at → Led (react i at o)
+  unfolding react
+  led (Item.Plain w) at room o h x = (room, onward room o at (at + w) x (plain w h nothing))
+  led Item.If at room o h x = led-in before at room o (opened-room code room o at x) (λ inner e. in-first at (rw e at x) h nothing)
+  led Item.Else at room [] h x = tt
+  led Item.Else at room (open-at before p ∷ o) h x = (room, in-second p at x h nothing)
+  led Item.Else at room (open-at after p ∷ o) h x = tt
+  led Item.Else at room (open-at looping p ∷ o) h x = tt
+  led Item.Endif at room [] h x = tt
+  led Item.Endif at room (open-at before p ∷ o) h x = (suc room, shut-first room p o at x h)
+  led Item.Endif at room (open-at after p ∷ o) h x = (suc room, shut-second room p o at x h)
+  led Item.Endif at room (open-at looping p ∷ o) h x = tt
+  led Item.Loop at room o h x = led-in looping at room o (opened-room code room o at x) (λ inner e. in-body at (rw e at x) h nothing)
+  led Item.Jump at room o h x = led-jump at room o h x (in-loop o) refl
+  led Item.Endloop at room [] h x = tt
+  led Item.Endloop at room (open-at before p ∷ o) h x = tt
+  led Item.Endloop at room (open-at after p ∷ o) h x = tt
+  led Item.Endloop at room (open-at looping p ∷ o) h x = (suc room, shut-body room p o at x h)
+  led (Item.Bad n) at room o h x = tt
+
+  pub led-step : (at : ℕ) (o : List Open) → ((room : ℕ) × Opened code room o at) → Led (step code at o)
+  led-step at o x =
+      dite (decLt at (code .size))
+      (λ h. rw (step-in code at o h) (led (code .item at) at (x .0) o (h, refl) (x .1)))
+      (λ h. rw (step-past code at o (omega arith)) tt)
+
+module _ (code : Code) (fits : Fits code) where
+  -- THE OPEN BLOCKS at a place are those that the code has open there
+  pub opened-if : (at : ℕ) (o : List Open) → (openAt code at ≡ there o) ↔ ((room : ℕ) × Opened code room o at)
+  opened-if at o = (
+    λ e. along code (λ a q. (room : ℕ) × Opened code room q a) (λ at o a q x f. rw f at (led-step code at o x)) (nesting, outside nothing) at o e,
+    λ x. at-opened code (λ a q. openAt code a ≡ there q) (going-on code fits) (open-at-start code fits) (x .0) o at (x .1) .1,
+  )
+
+  -- and the pass comes there with them
+  pub opened-run : (room : ℕ) (o : List Open) (at : ℕ) → Opened code room o at → checkOf code ≡ run code at o
+  opened-run room o at x =
+      at-opened code (λ a q. checkOf code ≡ run code a q) (λ at o a q p f. p ∙ run-step code fits at o ∙ ap (carry (λ v. v) (run code)) f) refl
+      room o at x .1
+
+  whole-outside : (room : ℕ) → Opened code room [] (code .size) → Nested code
+  whole-outside room (outside w) = w
+
+  -- CODE PASSES exactly if its blocks nest
+  pub passes-if : (checkOf code ≡ Fine) ↔ Nested code
+  unfolding ended
+  passes-if = (
+    λ e. let x = opened-if (code .size) [] .0 (none-at-the-end code fits e) in whole-outside (x .0) (x .1),
+    λ w. opened-run nesting [] (code .size) (outside w) ∙ run-past code fits (code .size) [] (omega arith),
+  )
