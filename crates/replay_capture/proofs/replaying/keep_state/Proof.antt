@@ -22,11 +22,11 @@ word-count-requires c κs = search needs
 
 array-share-prefix-words : tie.Need-array-share-prefix-words
 unfolding wordCount
-array-share-prefix-words c = omega (arith, c .word-count .ensures)
+array-share-prefix-words c = omega arith
 
 slice-aggregate-keep-words : tie.Need-slice-aggregate-keep-words
 unfolding wordCount wordsOf
-slice-aggregate-keep-words c = sym (length-take-le _ _ (omega (arith, c .before .word-count .ensures, ap length (c .before .before .words-of .ensures))))
+slice-aggregate-keep-words c = sym (length-take-le _ _ (omega (arith, ap length (c .before .before .words-of .ensures))))
 
 keep-words-requires : tie.Need-keep-words-requires
 keep-words-requires c κs = search needs

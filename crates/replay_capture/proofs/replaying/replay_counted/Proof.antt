@@ -22,33 +22,28 @@ least-requires-5 : tie.Need-least-requires-5
 least-requires-5 c κs = search needs
 
 slice-aggregate-replay-words : tie.Need-slice-aggregate-replay-words
-slice-aggregate-replay-words c =
-    sym (length-take-le _ (c .before .before .before .before .before .before .before .before .before .before .before .before .args .code .now) (omega (arith, c .before .before .before .before .before .least .ensures)))
+slice-aggregate-replay-words c = sym (length-take-le _ _ (omega arith))
 
 slice-relend-prefix-replay-words : tie.Need-slice-relend-prefix-replay-words
 slice-relend-prefix-replay-words c = search needs
 
 slice-aggregate-replay-words-2 : tie.Need-slice-aggregate-replay-words-2
-slice-aggregate-replay-words-2 c =
-    sym (length-take-le _ (c .before .before .before .before .before .before .before .before .before .before .before .before .before .args .regs .now) (omega (arith, c .before .before .before .before .before .least2 .ensures)))
+slice-aggregate-replay-words-2 c = sym (length-take-le _ _ (omega arith))
 
 slice-relend-prefix-replay-words-2 : tie.Need-slice-relend-prefix-replay-words-2
 slice-relend-prefix-replay-words-2 c = search needs
 
 slice-aggregate-replay-words-3 : tie.Need-slice-aggregate-replay-words-3
-slice-aggregate-replay-words-3 c =
-    sym (length-take-le _ (c .before .before .before .before .before .before .before .before .before .before .before .before .before .before .args .device .now) (omega (arith, c .before .before .before .before .before .least3 .ensures)))
+slice-aggregate-replay-words-3 c = sym (length-take-le _ _ (omega arith))
 
 slice-relend-prefix-replay-words-3 : tie.Need-slice-relend-prefix-replay-words-3
 slice-relend-prefix-replay-words-3 c = search needs
 
 slice-aggregate-replay-words-4 : tie.Need-slice-aggregate-replay-words-4
-slice-aggregate-replay-words-4 c =
-    sym (length-take-le _ (c .before .before .before .before .before .before .before .before .before .before .before .before .before .before .before .args .local .now) (omega (arith, c .before .before .before .before .before .least4 .ensures)))
+slice-aggregate-replay-words-4 c = sym (length-take-le _ _ (omega arith))
 
 slice-aggregate-replay-words-5 : tie.Need-slice-aggregate-replay-words-5
-slice-aggregate-replay-words-5 c =
-    sym (length-take-le _ (c .before .before .before .before .before .before .before .before .before .before .before .before .before .before .before .before .args .state .now) (omega (arith, c .before .before .before .before .before .least5 .ensures)))
+slice-aggregate-replay-words-5 c = sym (length-take-le _ _ (omega arith))
 
 replay-words-requires : tie.Need-replay-words-requires
 replay-words-requires c κs = search needs

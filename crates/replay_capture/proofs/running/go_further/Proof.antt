@@ -2,7 +2,7 @@
 use mathlib.Core.Path.{ap}
 use native.Mathlib.Omega.{arith}
 use Rattle.replay.specs.Calls.{added}
-use Rattle.replay_capture.proofs.Slices.{further-few}
+use Rattle.replay_capture.proofs.Slices.{resumed-most}
 use borrow.Author.Needs.{needs}
 use Rattle.replay_capture.proofs.running.go_further.Statement.{statement}
 use Rattle.replay_capture.proofs.running.go_further.Tie as tie
@@ -12,8 +12,8 @@ resume-requires c κs = search needs
 
 add-after : tie.Need-add-after
 add-after c =
-    let few = further-few _ _ _ _ _ _ _ _ (c .before .before .before .before .before .before .before .before .before .before .before .before .before .before .before .before .before .pre) (c .before .before .before .before .before .before .before .before .resume .ensures) in
-    omega (arith, few)
+    let few = resumed-most _ _ _ _ _ _ _ (c .before .before .before .before .before .before .before .before .resume .ensures) in
+    omega arith
 
 same-length : tie.Need-same-length
 same-length c = search needs
@@ -25,7 +25,7 @@ same-length-3 : tie.Need-same-length-3
 same-length-3 c = search needs
 
 returns : tie.Need-returns
-returns c = ap (added (c .before .before .before .before .before .before .before .before .before .before .before .before .before .before .before .before .before .args .before .steps)) (c .before .before .before .before .before .before .before .before .resume .ensures)
+returns c = ap (added _) (c .before .before .before .before .before .before .before .before .resume .ensures)
 
 pub go-further-spec : {M : Type 1} → statement M
 go-further-spec =

@@ -1,13 +1,14 @@
 -- At each turn what is left finishes the run.
 use mathlib.Core.Path.{_≡_, refl, sym, ap, _∙_}
-use Prim.Native.Nat.{_-_}
+use Prim.Native.Nat.{ℕ, _-_}
 use native.Mathlib.Omega.{arith}
 use lib.ListN.{length}
 use borrow.Author.Needs.{needs}
+use borrow.Author.Tests.{not-true, not-false}
 use Rattle.replay.specs.declared.settings.Settings.{Settings}
-use Rattle.replay.specs.Replay.{answered}
+use Rattle.replay.specs.Replay.{Answered, answered}
 use Rattle.replay_capture.specs.Starting.{startOf, finished}
-use Rattle.replay_capture.proofs.Slices.{was-stopped, was-not, Going, begun, gone-further, spent, over}
+use Rattle.replay_capture.proofs.Slices.{Going, begun, gone-further, spent, over}
 use Rattle.replay_capture.proofs.running.run_in_slices.Statement.{statement}
 use Rattle.replay_capture.proofs.running.run_in_slices.Tie as tie
 
@@ -31,13 +32,37 @@ budgeted-requires c κs = search needs
 start-requires : tie.Need-start-requires Inv-loop μ-loop
 start-requires c κs = search needs
 
--- the first slice
-begun-here : (z : tie.After-struct-known Inv-loop μ-loop)
-    → Going (z .before .before .before .before .before .before .before .before .before .before .before .before .before .before .before .before .before .args .settings) (z .before .before .before .before .before .before .before .before .before .before .before .before .before .before .before .before .before .args .code .now) (startOf (z .before .before .before .before .before .before .before .before .before .before .before .before .before .before .before .before .before .args .launched) (z .before .before .before .before .before .before .before .before .before .before .before .before .before .before .before .before .before .args .settings) (z .before .before .before .before .before .before .before .before .before .before .before .before .before .before .before .before .before .args .state) (z .before .before .before .before .before .before .before .before .before .before .before .before .before .before .before .before .before .args .code .now) (z .before .before .before .before .before .before .before .before .before .before .before .before .before .before .before .before .before .args .regs .now) (z .before .before .before .before .before .before .before .before .before .before .before .before .before .before .before .before .before .args .device .now) (z .before .before .before .before .before .before .before .before .before .before .before .before .before .before .before .before .before .args .local .now)) (z .before .before .before .before .before .before .before .before .before .before .before .before .before .before .before .before .before .args .settings .budget - z .before .before .before .before .before .before .before .before .before .before .before .before .slice-of .result) (answered (z .before .before .before .before .before .before .before .start .result) (z .before .before .before .before .before .before .before .start .last .1 .1 .1 .1 .0) (z .before .before .before .before .before .before .before .start .last .1 .1 .1 .1 .1 .0) (z .before .before .before .before .before .before .before .start .last .1 .1 .1 .1 .1 .1 .0))
-begun-here z = begun _ _ _ _ _ _ _ _ _ _ (z .before .before .before .before .before .before .before .before .before .before .before .before .before .before .before .before .before .pre) (z .before .before .before .before .before .before .before .before .before .before .before .before .slice-of .ensures) (z .before .before .before .before .before .before .before .before .before .before .before .budgeted .ensures) (z .before .before .before .before .before .before .before .start .ensures)
+-- ---- where the loop begins
+module _ (z : tie.After-struct-known Inv-loop μ-loop) where
+  abbrev started : tie.After-start Inv-loop μ-loop
+  started = z .before .before .before .before .before .before .before
+
+  abbrev chosen : tie.After-budgeted Inv-loop μ-loop
+  chosen = started .before .before .before .before
+
+  abbrev entered : tie.Start Inv-loop μ-loop
+  entered = chosen .before .before .before .before .before .before
+
+  -- the whole run
+  abbrev whole : Answered
+  whole =
+      let a = entered .args in
+      startOf (a .launched) (a .settings) (a .state) (a .code .now) (a .regs .now) (a .device .now) (a .local .now)
+
+  -- what the first slice answered, and the steps that it left
+  abbrev first-answer : Answered
+  first-answer =
+      let e = started .start .last .1 .1 .1 .1 in
+      answered (started .start .result) (e .0) (e .1 .0) (e .1 .1 .0)
+
+  abbrev rest : ℕ
+  rest = entered .args .settings .budget - chosen .before .slice-of .result
+
+  begun-here : Going (entered .args .settings) (entered .args .code .now) whole rest first-answer
+  begun-here = begun _ _ _ _ _ _ _ _ _ _ (entered .pre) (chosen .before .slice-of .ensures) (chosen .budgeted .ensures) (started .start .ensures)
 
 sub-left : tie.Need-sub-left Inv-loop μ-loop
-sub-left c = omega (arith, c .before .before .before .before .before .before .before .before .before .before .before .before .slice-of .ensures)
+sub-left c = search needs
 
 loop-holds : tie.Need-loop-holds Inv-loop μ-loop
 loop-holds c = (record { finishes = refl; few = begun-here c .few }, refl, refl, refl)
@@ -55,48 +80,52 @@ budgeted-requires-2 : tie.Need-budgeted-requires-2 Inv-loop μ-loop
 budgeted-requires-2 c κs = search needs
 
 go-further-requires : tie.Need-go-further-requires Inv-loop μ-loop
-go-further-requires c κs =
-    omega (arith, c .before .before .before .before .before .before .before .before .before .loop .inv .0 .few, c .before .before .before .before .slice-of2 .ensures, ap (λ (q : Settings). q .budget) (c .before .before .before .budgeted2 .ensures))
+go-further-requires c κs = omega (arith, ap (λ (q : Settings). q .budget) (c .before .before .before .budgeted2 .ensures))
 
 sub-left-2 : tie.Need-sub-left-2 Inv-loop μ-loop
-sub-left-2 c = omega (arith, c .before .before .before .before .before .before .before .before .before .before .before .slice-of2 .ensures)
+sub-left-2 c = search needs
 
 loop-less : tie.Need-loop-less Inv-loop μ-loop
-loop-less c = omega (arith, c .before .before .before .before .before .before .before .before .before .before .before .slice-of2 .ensures, c .before .before .before .before .before .before .before .before .before .before .before .before .before .before .before .loop-test .taken)
+loop-less c = search needs
 
 loop-again : tie.Need-loop-again Inv-loop μ-loop
 loop-again c =
-    let i = c .before .before .before .before .before .before .before .before .before .before .before .before .before .before .before .before .loop .inv in
-    let g = c .before .before .before .before .before .before .go-further .kept .1 .1 .1 in (
-      gone-further _ _ _ (i .0) (was-stopped _ _ (c .before .before .before .before .before .before .before .before .before .before .before .before .before .before .is-stopped .ensures) (c .before .before .before .before .before .before .before .before .before .before .before .before .before .if1 .left)) (c .before .before .before .before .before .before .before .before .before .before .before .before .before .before .before .loop-test .taken) (c .before .before .before .before .before .before .before .before .before .before .before .slice-of2 .ensures) (c .before .before .before .before .before .before .before .before .before .before .budgeted2 .ensures) (c .before .before .before .before .before .before .go-further .ensures),
-      g .0 ∙ i .1,
-      g .1 .0 ∙ i .2,
-      g .1 .1 .0 ∙ i .3,
+    let g = c .before .before .before .before .before .before in
+    let b = g .before .before .before .before in
+    let w = b .before .before .before in
+    let going = w .before .before .before .loop .inv .0 in
+    let stopped = sym (w .before .is-stopped .ensures) ∙ not-false _ (w .if1 .left) in (
+      gone-further going _ _ _ stopped (omega arith) (b .before .slice-of2 .ensures) (b .budgeted2 .ensures) (g .go-further .ensures),
+      search needs,
+      search needs,
+      search needs,
     )
 
 same-length : tie.Need-same-length Inv-loop μ-loop
-same-length c = c .before .loop .inv .1 ∙ c .before .before .before .before .before .before .before .before .before .start .kept .1 .1 .1 .1 .0
+same-length c = search needs
 
 same-length-2 : tie.Need-same-length-2 Inv-loop μ-loop
-same-length-2 c = c .before .loop .inv .2 ∙ c .before .before .before .before .before .before .before .before .before .start .kept .1 .1 .1 .1 .1 .0
+same-length-2 c = search needs
 
 same-length-3 : tie.Need-same-length-3 Inv-loop μ-loop
-same-length-3 c = c .before .loop .inv .3 ∙ c .before .before .before .before .before .before .before .before .before .start .kept .1 .1 .1 .1 .1 .1 .0
+same-length-3 c = search needs
 
 returns : tie.Need-returns Inv-loop μ-loop
-returns c = spent (c .before .loop .inv .0) (omega (arith, c .loop-test .left)) ∙ sym (begun-here (c .before .before) .finishes)
+returns c = spent (c .before .loop .inv .0) (omega arith) ∙ sym (begun-here (c .before .before) .finishes)
 
 same-length-4 : tie.Need-same-length-4 Inv-loop μ-loop
-same-length-4 c = c .before .before .before .loop .inv .1 ∙ c .before .before .before .before .before .before .before .before .before .before .before .start .kept .1 .1 .1 .1 .0
+same-length-4 c = search needs
 
 same-length-5 : tie.Need-same-length-5 Inv-loop μ-loop
-same-length-5 c = c .before .before .before .loop .inv .2 ∙ c .before .before .before .before .before .before .before .before .before .before .before .start .kept .1 .1 .1 .1 .1 .0
+same-length-5 c = search needs
 
 same-length-6 : tie.Need-same-length-6 Inv-loop μ-loop
-same-length-6 c = c .before .before .before .loop .inv .3 ∙ c .before .before .before .before .before .before .before .before .before .before .before .start .kept .1 .1 .1 .1 .1 .1 .0
+same-length-6 c = search needs
 
 returns-2 : tie.Need-returns-2 Inv-loop μ-loop
-returns-2 c = over (c .before .before .before .loop .inv .0) (was-not _ _ (c .before .is-stopped .ensures) (c .if1 .taken)) ∙ sym (begun-here (c .before .before .before .before) .finishes)
+returns-2 c =
+    let l = c .before .before .before in
+    over (l .loop .inv .0) (sym (c .before .is-stopped .ensures) ∙ not-true _ (c .if1 .taken)) ∙ sym (begun-here (l .before) .finishes)
 
 pub run-in-slices-spec : {M : Type 1} → statement M
 run-in-slices-spec =

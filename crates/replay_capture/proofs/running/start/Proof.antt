@@ -1,5 +1,5 @@
 -- By the test.
-use Rattle.replay_capture.proofs.Slices.{start-launches, start-resumes}
+use Rattle.replay_capture.specs.Starting.{startOf}
 use borrow.Author.Needs.{needs}
 use Rattle.replay_capture.proofs.running.start.Statement.{statement}
 use Rattle.replay_capture.proofs.running.start.Tie as tie
@@ -20,7 +20,10 @@ same-length-3 : tie.Need-same-length-3
 same-length-3 c = search needs
 
 returns : tie.Need-returns
-returns c = start-launches _ _ _ _ _ _ _ _ (c .before .before .before .before .before .before .before .before .before .before .if1 .taken) (c .before .before .before .before .before .before .launch .ensures)
+unfolding startOf
+returns c =
+    let r = c .before .before .before .before .before .before in
+    rw (r .before .before .before .before .if1 .taken) (r .launch .ensures)
 
 same-length-4 : tie.Need-same-length-4
 same-length-4 c = search needs
@@ -32,7 +35,10 @@ same-length-6 : tie.Need-same-length-6
 same-length-6 c = search needs
 
 returns-2 : tie.Need-returns-2
-returns-2 c = start-resumes _ _ _ _ _ _ _ _ (c .before .before .before .before .before .before .before .before .before .before .if1 .left) (c .before .before .before .before .before .before .resume .ensures)
+unfolding startOf
+returns-2 c =
+    let r = c .before .before .before .before .before .before in
+    rw (r .before .before .before .before .if1 .left) (r .resume .ensures)
 
 pub start-spec : {M : Type 1} → statement M
 start-spec =

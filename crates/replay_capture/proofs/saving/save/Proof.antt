@@ -1,7 +1,6 @@
 -- The name beside fits its buffer.
-use mathlib.Core.Path.{_≡_, sym, _∙_}
+use mathlib.Core.Path.{sym}
 use native.Mathlib.Omega.{arith}
-use lib.ListN.{length}
 use lib.Seq.{length-take-le}
 use borrow.Author.Needs.{needs}
 use Rattle.replay_capture.proofs.saving.save.Statement.{statement}
@@ -35,11 +34,7 @@ array-share-prefix-beside : tie.Need-array-share-prefix-beside
 array-share-prefix-beside c = search needs
 
 slice-aggregate-write-beside : tie.Need-slice-aggregate-write-beside
-slice-aggregate-write-beside c =
-    let t = c .before .before .before .put-bytes2 .last .0 in
-    let l : length t ≡ 4096 =
-    c .before .before .before .put-bytes2 .kept .0 ∙ c .before .before .before .before .before .before .before .put-bytes .kept .0 ∙ sym (c .before .before .before .before .before .before .before .before .before .buffer .ensures) in
-    sym (length-take-le _ t (omega arith))
+slice-aggregate-write-beside c = sym (length-take-le _ _ (omega arith))
 
 write-beside-requires : tie.Need-write-beside-requires
 write-beside-requires c κs = search needs
