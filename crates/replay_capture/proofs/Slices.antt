@@ -1,5 +1,5 @@
 -- A run in slices is the run: a run of a + b steps is one of a, gone on from with b where that was stopped.
-use mathlib.Core.Path.{_≡_, refl, sym, ap, subst, _∙_}
+use mathlib.Core.Path.{_≡_, refl, sym, ap, _∙_}
 use mathlib.Core.Bool.{Bool, true, false}
 use mathlib.Core.List.{List}
 use mathlib.Core.Logic.{⊎-elim}
@@ -40,18 +40,14 @@ use Rattle.replay_capture.specs.Starting.{startOf, stopped, slice, goneO
 
 -- ---- a run makes no more steps than its budget
 module _ (s : Settings) (code : List ℕ) where
-  abbrev Most : ℕ → Ran → Type 0
-  Most b r = r .steps ≤ b
-
-  run-most : (b : ℕ) (m : Machine) → Most b (runOf s code b m)
+  run-most : (b : ℕ) (m : Machine) → runOf s code b m .steps ≤ b
   run-most zero m =
-      ⊎-elim (λ e. subst (Most 0) (sym (at-ended s code 0 m e)) (omega arith)) (λ e. subst (Most 0) (sym (at-budget s code m e)) (omega arith))
-      (true-or-false (endedOf s code m))
+      ⊎-elim (λ e. rw (at-ended s code 0 m e) (omega arith)) (λ e. rw (at-budget s code m e) (omega arith)) (true-or-false (endedOf s code m))
   run-most (suc b) m =
-      ⊎-elim (λ e. subst (Most (suc b)) (sym (at-ended s code (suc b) m e)) (omega arith))
+      ⊎-elim (λ e. rw (at-ended s code (suc b) m e) (omega arith))
       (λ e.
-      ⊎-elim (λ c. subst (Most (suc b)) (sym (at-clear s code b m e c)) (omega (arith, run-most b (stepAt s code m .end))))
-      (λ c. subst (Most (suc b)) (sym (at-fault s code b m e c)) (omega arith))
+      ⊎-elim (λ c. rw (at-clear s code b m e c) (omega (arith, run-most b (stepAt s code m .end))))
+      (λ c. rw (at-fault s code b m e c) (omega arith))
       (true-or-false (clear (stepAt s code m .faults))))
       (true-or-false (endedOf s code m))
 
@@ -60,12 +56,12 @@ module _ (s : Settings) (code : List ℕ) where
   tested-most Checked.Fine b m state regs y = run-most b m
   tested-most (Checked.Refused number place) b m state regs y = omega arith
 
-  pub resume-most : (state : State) (regs device local : List ℕ) → resumeOf s state code regs device local .steps ≤ s .budget
+  resume-most : (state : State) (regs device local : List ℕ) → resumeOf s state code regs device local .steps ≤ s .budget
   unfolding resumeOf
   resume-most state regs device local =
       tested-most (resumeTest s state code regs) (s .budget) (stateMachine state regs device local) state regs _
 
-  pub start-most : (l : Bool) (state : State) (regs device local : List ℕ) → startOf l s state code regs device local .steps ≤ s .budget
+  start-most : (l : Bool) (state : State) (regs device local : List ℕ) → startOf l s state code regs device local .steps ≤ s .budget
   unfolding startOf launchOf
   start-most true state regs device local = tested-most (launchTest s code regs) (s .budget) (launchMachine s regs device local) _ regs _
   start-most false state regs device local = resume-most state regs device local
@@ -153,10 +149,7 @@ module _ (s : Settings) (code : List ℕ) (state : State) (regs device local : L
 module _ (s : Settings) (code : List ℕ) where
   added-gone : (n b : ℕ) (x : Answered) (q : Bool) → added n (goneOn q s code b x) ≡ goneOn q s code b (added n x)
   unfolding goneOn
-  added-gone n b x true =
-      let y : Answered = resumedWith b s code x in
-      ap (λ (k : ℕ). record { outcome = y .outcome; steps = k; state = y .state; regs = y .regs; memories = y .memories })
-      (sym (add-assoc n (x .steps) (y .steps)))
+  added-gone n b x true = rw add-assoc
   added-gone n b x false = refl
 
   added-finished : (n b : ℕ) (x : Answered) → added n (finished s code b x) ≡ finished s code b (added n x)
@@ -188,9 +181,9 @@ module _ (s : Settings) (code : List ℕ) where
 -- ---- what the code does
 
 -- what was gone on with made no more steps than its budget
-pub resumed-most : (s : Settings) (state : State) (code regs device local : List ℕ) (x : Answered)
+pub resumed-most : (s : Settings) (state : State) (code regs device local : List ℕ) {x : Answered}
     → x ≡ resumeOf s state code regs device local → x .steps ≤ s .budget
-resumed-most s state code regs device local x e = rw e (resume-most s code state regs device local)
+resumed-most s state code regs device local e = rw e (resume-most s code state regs device local)
 
 -- at a turn: what is left finishes the run, and the steps fit
 pub record Going (s : Settings) (code : List ℕ) (whole : Answered) (left : ℕ) (x : Answered) : Type 0 where
@@ -198,40 +191,34 @@ pub record Going (s : Settings) (code : List ℕ) (whole : Answered) (left : ℕ
   pub few : x .steps + left ≤ mostSteps
 
 -- the first slice
-pub begun : (s t : Settings) (l : Bool) (state : State) (code regs device local : List ℕ) (first : ℕ) (x : Answered) → s .budget ≤ mostSteps
-    → first ≡ min (s .budget) slice → t ≡ budgeted first s → x ≡ startOf l t state code regs device local
+pub begun : {s t : Settings} {code : List ℕ} {first : ℕ} {x : Answered} (l : Bool) (state : State) (regs device local : List ℕ)
+    → s .budget ≤ mostSteps → first ≡ min (s .budget) slice → t ≡ budgeted first s → x ≡ startOf l t state code regs device local
     → Going s code (startOf l s state code regs device local) (s .budget - first) x
-begun s t l state code regs device local first x most f e h =
+begun {s} {t} {code} {first} {x} l state regs device local most f e h =
     let sum : first + (s .budget - first) ≡ s .budget = omega arith in
     let y : x ≡ startOf l (budgeted first s) state code regs device local = rw e at h in
     record {
-      finishes =
-          ap (λ (b : ℕ). startOf l (budgeted b s) state code regs device local) (sym sum)
-          ∙ start-finishes s code state regs device local l first (s .budget - first) (omega arith)
-          ∙ ap (finished s code (s .budget - first)) (sym y);
+      finishes = rw y (rw sum at (start-finishes s code state regs device local l first (s .budget - first) (omega arith)));
       few = rw y (omega (arith, start-most (budgeted first s) code l state regs device local));
     }
 
 module _ {s : Settings} {code : List ℕ} {whole : Answered} {left : ℕ} {x : Answered} (g : Going s code whole left x) where
   -- one slice more
-  pub gone-further : (t : Settings) (c : ℕ) (y : Answered) → stopped (x .outcome) ≡ true → 0 < left → c ≡ min left slice
+  pub gone-further : {t : Settings} {c : ℕ} {y : Answered} → stopped (x .outcome) ≡ true → 0 < left → c ≡ min left slice
       → t ≡ budgeted c s → y ≡ added (x .steps) (resumeOf t (x .state) code (x .regs) (x .memories .device) (x .memories .local))
       → Going s code whole (left - c) y
-  gone-further t c y h some f e d =
+  gone-further {t} {c} {y} h some f e d =
       let sum : c + (left - c) ≡ left = omega arith in
       let z : y ≡ added (x .steps) (resumedWith c s code x) = rw e at d in
       record {
-        finishes =
-            g .finishes ∙ ap (λ (b : ℕ). finished s code b x) (sym sum)
-            ∙ slice-finishes s code c (left - c) x (omega arith) (omega arith) h
-            ∙ ap (finished s code (left - c)) (sym z);
+        finishes = rw (g .finishes, z) (rw sum at (slice-finishes s code c (left - c) x (omega arith) (omega arith) h));
         few = rw z (omega (arith, resume-most (budgeted c s) code (x .state) (x .regs) (x .memories .device) (x .memories .local)));
       }
 
   -- nothing is left, of the budget or of the run
   pub spent : left ≡ 0 → x ≡ whole
   unfolding finished
-  spent e = sym (g .finishes ∙ ap (λ (b : ℕ). finished s code b x) e)
+  spent e = rw e at (sym (g .finishes))
 
   pub over : stopped (x .outcome) ≡ false → x ≡ whole
   over h = sym (g .finishes ∙ nothing-left s code left x h)

@@ -12,7 +12,7 @@ resume-requires c κs = search needs
 
 add-after : tie.Need-add-after
 add-after c =
-    let few = resumed-most _ _ _ _ _ _ _ (c .before .before .before .before .before .before .before .before .resume .ensures) in
+    let few = resumed-most _ _ _ _ _ _ (c .before .before .before .before .before .before .before .before .resume .ensures) in
     omega arith
 
 same-length : tie.Need-same-length

@@ -32,7 +32,7 @@ budgeted-requires c κs = search needs
 start-requires : tie.Need-start-requires Inv-loop μ-loop
 start-requires c κs = search needs
 
--- ---- where the loop begins
+-- ---- where the loop begins: the first slice has been run, its settings were chosen before, and before that the call began
 module _ (z : tie.After-struct-known Inv-loop μ-loop) where
   abbrev started : tie.After-start Inv-loop μ-loop
   started = z .before .before .before .before .before .before .before
@@ -59,7 +59,7 @@ module _ (z : tie.After-struct-known Inv-loop μ-loop) where
   rest = entered .args .settings .budget - chosen .before .slice-of .result
 
   begun-here : Going (entered .args .settings) (entered .args .code .now) whole rest first-answer
-  begun-here = begun _ _ _ _ _ _ _ _ _ _ (entered .pre) (chosen .before .slice-of .ensures) (chosen .budgeted .ensures) (started .start .ensures)
+  begun-here = begun _ _ _ _ _ (entered .pre) (chosen .before .slice-of .ensures) (chosen .budgeted .ensures) (started .start .ensures)
 
 sub-left : tie.Need-sub-left Inv-loop μ-loop
 sub-left c = search needs
@@ -90,12 +90,12 @@ loop-less c = search needs
 
 loop-again : tie.Need-loop-again Inv-loop μ-loop
 loop-again c =
-    let g = c .before .before .before .before .before .before in
-    let b = g .before .before .before .before in
-    let w = b .before .before .before in
-    let going = w .before .before .before .loop .inv .0 in
-    let stopped = sym (w .before .is-stopped .ensures) ∙ not-false _ (w .if1 .left) in (
-      gone-further going _ _ _ stopped (omega arith) (b .before .slice-of2 .ensures) (b .budgeted2 .ensures) (g .go-further .ensures),
+    let gone = c .before .before .before .before .before .before in
+    let next = gone .before .before .before .before in
+    let turn = next .before .before .before in
+    let going = turn .before .before .before .loop .inv .0 in
+    let stopped = sym (turn .before .is-stopped .ensures) ∙ not-false _ (turn .if1 .left) in (
+      gone-further going stopped (omega arith) (next .before .slice-of2 .ensures) (next .budgeted2 .ensures) (gone .go-further .ensures),
       search needs,
       search needs,
       search needs,
