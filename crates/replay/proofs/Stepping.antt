@@ -10,7 +10,7 @@ use Rattle.words.specs.declared.instr.Instr.{Instr}
 use Rattle.words.specs.declared.instr.ControlOp.{ControlOp}
 use Rattle.words.specs.declared.fetching.ControlIn.{ControlIn}
 use Rattle.words.specs.Forms.{size}
-use Rattle.words.specs.Fetching.{instrAt, controlIn}
+use Rattle.words.specs.Fetching.{controlIn}
 use Rattle.words.specs.declared.instr.ControlOp.the-variants.{If, Else, Endif, Loop, Break, Continue, Endloop, Halt, Barrier, Nop}
 use Rattle.words.proofs.Fetches.{control-is}
 use Rattle.wave.specs.declared.state.Hot.{Hot}
@@ -29,7 +29,6 @@ use Rattle.compute.specs.Carrying.{Outcome, outcome, carried, carriedOf}
 use Rattle.compute.proofs.Carrying as carrying
 use Rattle.replay.specs.declared.settings.Settings.{Settings}
 use Rattle.replay.specs.Machine.{Machine, machineOf, named, preds, withNamed, hotWith}
-use Rattle.replay.specs.Run.{stepAt}
 use Rattle.replay.specs.Step as spec
 use Rattle.replay.specs.Step.{shapeOf, launchedOf, lanesOf, computed, noFaults, withBarrier, stepAs, ordinaryOf, stepOf}
 
@@ -159,9 +158,3 @@ module _ (s : Settings) (x : Instr) (o : ControlOp) (h : Hot) (path path′ regs
       (f : Faults) (all t : ℕ) → f ≡ withBarrier (r .barrier) noFaults → all ≡ launchedOf s → t ≡ lanesOf x at →
       Seen o all t h path r path′ → given f (machineOf (r .hot) path′ regs device local) ≡ stepOf s x at
   step-control f all t alone launched lanes q = rw alone (by-rule (rw (launched, lanes) at q))
-
--- a step of the instruction that was read at the wave's place
-pub stepped-at :
-    (s : Settings) (code : List ℕ) (m : Machine) (x : Instr) (y : spec.Stepped) → x ≡ instrAt code (m .wave .place) → y ≡ stepOf s x m →
-    y ≡ stepAt s code m
-stepped-at s code m x y is e = rw is at e

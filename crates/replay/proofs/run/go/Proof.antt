@@ -1,26 +1,57 @@
 -- What is left to do from the machine that the loop has reached is the run, and the buffers keep their lengths.
 use native.Mathlib.Omega.{arith}
-use mathlib.Core.Path.{_≡_, refl, sym, _∙_}
+use mathlib.Core.Path.{sym, _∙_}
 use Prim.Native.Nat.{_-_}
-use lib.ListN.{length}
 use borrow.Author.Needs.{needs}
 use borrow.Author.Tests.{not-true, not-false}
-use Rattle.replay.specs.Machine.{machineOf}
-use Rattle.replay.proofs.Runs.{Going, start, ends, spent, faulted, goes}
-use Rattle.replay.proofs.Stepping.{stepped-at}
+use Rattle.replay.specs.Machine.{Machine, machineOf}
+use Rattle.replay.specs.Step.{Stepped, stepped}
+use Rattle.replay.proofs.Runs.{Going, Turn, start, ends, spends, below, still-long, faults, goes}
 use Rattle.replay.proofs.run.go.Statement.{statement}
 use Rattle.replay.proofs.run.go.Tie as tie
 
 abbrev Inv-loop : tie.InvT-loop
 Inv-loop settings code path₀ regs₀ device₀ local₀ hot₀ steps₀ path regs device local hot steps =
     Going settings code (settings .budget) steps (machineOf hot₀ path₀ regs₀ device₀ local₀) (machineOf hot path regs device local)
-    × ((length regs ≡ length regs₀) × ((length device ≡ length device₀) × (length local ≡ length local₀)))
 
 abbrev μ-loop : tie.MeasureT-loop
 μ-loop settings code path₀ regs₀ device₀ local₀ hot₀ steps₀ path regs device local hot steps = settings .budget - steps
 
+-- the machine that the run starts from
+abbrev first : tie.Start Inv-loop μ-loop → Machine
+first z = machineOf (z .args .h) (z .args .path .now) (z .args .regs .now) (z .args .device .now) (z .args .local .now)
+
+-- what the step gave
+abbrev given : tie.After-step Inv-loop μ-loop → Stepped
+given z = let l = z .step .last .1 .1 .1 in stepped (z .step .result) (l .0) (l .1 .0) (l .1 .1 .0) (l .1 .1 .1 .0)
+
+-- what is known of the turn once its step is made
+turn : (z : tie.After-is-clear Inv-loop μ-loop) →
+    let made = z .before .before .before .before .before .before .before .before .before in
+    let top = made .before .before .before .before .before .before .before .before .before .before .before in
+    let s = top .before .before .before .before .before in
+    Turn (s .args .settings) (s .args .code .now) (s .args .settings .budget) (top .loop .steps) (first s) (given made)
+turn z =
+    let local = z .before .before .before .before in
+    let device = local .before .before in
+    let regs = device .before .before in
+    let made = regs .before in
+    let read = made .before .before .before .before .before in
+    let left = read .before .before in
+    let asked = left .before .before .before in
+    record {
+      machine = _;
+      going = asked .before .loop .inv;
+      unended = sym (asked .has-ended .ensures) ∙ left .before .before .if1 .left;
+      unspent = left .if2 .left;
+      instr = _;
+      reads = read .instr-at .ensures;
+      steps = made .step .ensures;
+      same = record { regs = regs .regs .given; device = device .device .given; local = local .local .given };
+    }
+
 loop-holds : tie.Need-loop-holds Inv-loop μ-loop
-loop-holds c = (start _ _ _ _, (refl, (refl, refl)))
+loop-holds c = start _ _ _ _
 
 has-ended-requires : tie.Need-has-ended-requires Inv-loop μ-loop
 has-ended-requires c κs = search needs
@@ -35,7 +66,7 @@ same-length-3 : tie.Need-same-length-3 Inv-loop μ-loop
 same-length-3 c = search needs
 
 returns : tie.Need-returns Inv-loop μ-loop
-returns c = ends _ _ _ _ _ _ (c .before .before .loop .inv .0) (sym (c .before .has-ended .ensures) ∙ c .if1 .taken)
+returns c = ends (c .before .before .loop .inv) (sym (c .before .has-ended .ensures) ∙ c .if1 .taken)
 
 same-length-4 : tie.Need-same-length-4 Inv-loop μ-loop
 same-length-4 c = search needs
@@ -47,7 +78,9 @@ same-length-6 : tie.Need-same-length-6 Inv-loop μ-loop
 same-length-6 c = search needs
 
 returns-2 : tie.Need-returns-2 Inv-loop μ-loop
-returns-2 c = spent _ _ _ _ _ _ (c .before .before .before .before .loop .inv .0) (sym (c .before .before .before .has-ended .ensures) ∙ c .before .before .if1 .left) (c .if2 .taken)
+returns-2 c =
+    let asked = c .before .before .before in
+    spends (asked .before .loop .inv) (sym (asked .has-ended .ensures) ∙ c .before .before .if1 .left) (c .if2 .taken)
 
 cast-instr-at : tie.Need-cast-instr-at Inv-loop μ-loop
 cast-instr-at c = search needs
@@ -62,46 +95,28 @@ is-clear-requires : tie.Need-is-clear-requires Inv-loop μ-loop
 is-clear-requires c κs = search needs
 
 same-length-7 : tie.Need-same-length-7 Inv-loop μ-loop
-same-length-7 c = let made = c .before .before .before .before .before .before .before .before .before in made .regs .given ∙ made .before .before .before .before .before .before .before .before .before .before .before .before .loop .inv .1 .0
+same-length-7 c = still-long (turn (c .before)) .regs
 
 same-length-8 : tie.Need-same-length-8 Inv-loop μ-loop
-same-length-8 c = let made = c .before .before .before .before .before .before .before in made .device .given ∙ made .before .before .before .before .before .before .before .before .before .before .before .before .before .before .loop .inv .1 .1 .0
+same-length-8 c = still-long (turn (c .before)) .device
 
 same-length-9 : tie.Need-same-length-9 Inv-loop μ-loop
-same-length-9 c = let made = c .before .before .before .before .before in made .local .given ∙ made .before .before .before .before .before .before .before .before .before .before .before .before .before .before .before .before .loop .inv .1 .1 .1
+same-length-9 c = still-long (turn (c .before)) .local
 
 returns-3 : tie.Need-returns-3 Inv-loop μ-loop
-returns-3 c =
-    let made = c .before .before .before .before .before .before .before .before .before .before in
-    let read = made .before .before .before .before .before in
-    let left = read .before .before in
-    let on = left .before .before .before in
-    let turn = on .before .loop in
-    faulted _ _ _ _ _ _ (turn .inv .0) (sym (on .has-ended .ensures) ∙ left .before .before .if1 .left) (left .if2 .left) _
-    (stepped-at _ _ _ _ _ (read .instr-at .ensures) (made .step .ensures)) (sym (c .before .is-clear .ensures) ∙ not-true _ (c .if3 .taken))
+returns-3 c = faults (turn (c .before)) (sym (c .before .is-clear .ensures) ∙ not-true _ (c .if3 .taken))
 
 add-steps : tie.Need-add-steps Inv-loop μ-loop
 add-steps c =
-    let left = c .before .before .before .before .before .before .before .before .before .before .before .before .before .before .before .before .before in
-    omega (arith, left .before .before .before .before .loop .inv .0 .fewer, left .if2 .left, left .before .struct-known .given .1 .1 .1 .0)
+    let made = c .before .before .before .before .before .before .before .before .before .before in
+    let known = made .before .before .before .before .before .before .before .before .struct-known in
+    omega (arith, below (turn (c .before)), known .given .1 .1 .1 .0)
 
 loop-less : tie.Need-loop-less Inv-loop μ-loop
-loop-less c =
-    let left = c .before .before .before .before .before .before .before .before .before .before .before .before .before .before .before .before .before in
-    omega (arith, left .before .before .before .before .loop .inv .0 .fewer, left .if2 .left)
+loop-less c = omega (arith, below (turn (c .before)))
 
 loop-again : tie.Need-loop-again Inv-loop μ-loop
-loop-again c =
-    let made = c .before .before .before .before .before .before .before .before .before .before in
-    let read = made .before .before .before .before .before in
-    let left = read .before .before in
-    let on = left .before .before .before in
-    let turn = on .before .loop in
-    let kept = turn .inv .1 in (
-      goes _ _ _ _ _ _ (turn .inv .0) (sym (on .has-ended .ensures) ∙ left .before .before .if1 .left) (left .if2 .left) _
-          (stepped-at _ _ _ _ _ (read .instr-at .ensures) (made .step .ensures)) (sym (c .before .is-clear .ensures) ∙ not-false _ (c .if3 .left)),
-      (c .before .before .before .before .before .before .before .before .before .regs .given ∙ kept .0, (c .before .before .before .before .before .before .before .device .given ∙ kept .1 .0, c .before .before .before .before .before .local .given ∙ kept .1 .1)),
-    )
+loop-again c = goes (turn (c .before)) (sym (c .before .is-clear .ensures) ∙ not-false _ (c .if3 .left))
 
 pub go-spec : {M : Type 1} → statement M
 go-spec =
