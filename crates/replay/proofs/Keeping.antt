@@ -12,7 +12,6 @@ use lib.ListN.{length}
 use Rattle.ground.proofs.Bools.{never}
 use Rattle.ground.proofs.Tests.{true-or-false}
 use Rattle.lanes.specs.Sets.{bit, first, without}
-use Rattle.lanes.proofs.Bits.{bit-zero}
 use Rattle.lanes.proofs.Members.{joined-le}
 use Rattle.words.specs.declared.instr.Op.{Op}
 use Rattle.words.specs.declared.instr.Instr.{Instr}
@@ -39,32 +38,12 @@ use Rattle.wave.proofs.Stays.{control-keeps, onward-keeps}
 use Rattle.compute.specs.Faulting.{clear}
 use Rattle.compute.proofs.Carrying.{other-bits, length-regs}
 use Rattle.replay.specs.declared.settings.Settings.{Settings}
-use Rattle.replay.specs.Machine.{Machine, named, preds, withNamed}
+use Rattle.replay.specs.Machine.{Machine, named, withNamed}
 use Rattle.replay.specs.Step.{shapeOf, launchedOf, lanesOf, computed, waveAfter, faultsIn, carriedBy, stepOf}
 use Rattle.replay.specs.Run.{endedOf, stepAt, runOf, Ran}
 use Rattle.replay.specs.Replay.{mostWords}
+use Rattle.replay.proofs.Naming.{named-fits, with-named-fits}
 use Rattle.replay.proofs.Runs.{at-ended, at-budget, at-fault, at-clear}
-
--- ---- predicates
-module _ (l : ℕ) (ps : Preds) (f : PredsFit l ps) where
-  chosen-fits : (a b c : Bool) (i : ℕ) → bit (cond a (ps .p1) (cond b (ps .p2) (cond c (ps .p3) 0))) i ≤ bit l i
-  chosen-fits true b c i = f .in1 i
-  chosen-fits false true c i = f .in2 i
-  chosen-fits false false true i = f .in3 i
-  chosen-fits false false false i = omega (arith, bit-zero i)
-
-  module _ (q : ℕ) (g : (i : ℕ) → bit q i ≤ bit l i) where
-    given-fits : (a b c : Bool) → PredsFit l (cond a (preds q (ps .p2) (ps .p3)) (cond b (preds (ps .p1) q (ps .p3)) (cond c (preds (ps .p1) (ps .p2) q) ps)))
-    given-fits true b c = record { in1 = g; in2 = f .in2; in3 = f .in3 }
-    given-fits false true c = record { in1 = f .in1; in2 = g; in3 = f .in3 }
-    given-fits false false true = record { in1 = f .in1; in2 = f .in2; in3 = g }
-    given-fits false false false = f
-
-  named-fits : (k i : ℕ) → bit (named k ps) i ≤ bit l i
-  named-fits k i = chosen-fits (eqb k 1) (eqb k 2) (eqb k 3) i
-
-  with-named-fits : (k q : ℕ) → ((i : ℕ) → bit q i ≤ bit l i) → PredsFit l (withNamed k q ps)
-  with-named-fits k q g = given-fits q g (eqb k 1) (eqb k 2) (eqb k 3)
 
 -- a wave that fits does so with any predicates of launched lanes
 other-preds : (code : List ℕ) (registers n : ℕ) (w : Wave) (ps qs : Preds) → PredsFit (first n) qs → WaveFits code registers n w ps
@@ -126,7 +105,7 @@ module _ (code : List ℕ) (registers : ℕ) (checked : checkOf (codeOf code reg
         → PredsFit (first n) (withNamed (x .rd) (computed s x (lanesOf x m) m .after .predicate) (m .preds))
     preds-keep x m f =
         let p = fits-lanes n (m .wave) (m .preds) (f .sets) .1 in
-        with-named-fits (first n) (m .preds) p (x .rd) (computed s x (lanesOf x m) m .after .predicate)
+        with-named-fits (first n) (m .preds) p (computed s x (lanesOf x m) m .after .predicate)
         (λ i.
         omega (
           arith,
@@ -136,6 +115,7 @@ module _ (code : List ℕ) (registers : ℕ) (checked : checkOf (codeOf code reg
           executing-within (x .guard) (m .wave .active) (m .preds) i,
           active-launched n (m .wave) (m .preds) (f .sets) i,
         ))
+        (x .rd)
 
     carried-keeps : (m : Machine) → m .wave .place < length code → MachineFits m
         → MachineFits (carriedBy s (instrAt code (m .wave .place)) (lanesOf (instrAt code (m .wave .place)) m) m)

@@ -5,6 +5,7 @@ pub mod Stopping
 pub mod FaultKinds
 pub mod Returns
 pub mod Refusing
+pub mod Naming
 pub mod Stepping
 pub mod Entering
 pub mod OneAnswer

@@ -17,7 +17,7 @@ use Rattle.wave.specs.declared.state.Hot.{Hot}
 use Rattle.wave.specs.declared.rules.Stepped.{Stepped}
 use Rattle.blocks.specs.Scan.{nesting}
 use Rattle.wave.specs.Wave.{Wave, Preds, waveOf, predsOf, hotOf}
-use Rattle.wave.specs.Rules.{onwardBy, onward, barred}
+use Rattle.wave.specs.Rules.{executingOf, onwardBy, onward, barred}
 use Rattle.wave.specs.Control.{controlRule, faultLanes}
 use Rattle.wave.proofs.Laying.{length-opened}
 use Rattle.wave.proofs.View.{Seen}
@@ -28,9 +28,10 @@ use Rattle.compute.specs.Faulting.{clear}
 use Rattle.compute.specs.Carrying.{Outcome, outcome, carried, carriedOf}
 use Rattle.compute.proofs.Carrying as carrying
 use Rattle.replay.specs.declared.settings.Settings.{Settings}
-use Rattle.replay.specs.Machine.{Machine, machineOf, named, preds, withNamed, hotWith}
+use Rattle.replay.specs.Machine.{Machine, machineOf, named, withNamed, hotWith}
 use Rattle.replay.specs.Step as spec
 use Rattle.replay.specs.Step.{shapeOf, launchedOf, lanesOf, computed, noFaults, withBarrier, stepAs, ordinaryOf, stepOf}
+use Rattle.replay.proofs.Naming.{named-same}
 
 -- the wave that is read after going on by some words
 pub onward-seen : (n : ℕ) (h : Hot) (ps : Preds) (xs : List ℕ) → waveOf (hotOf (onwardBy n (waveOf h xs)) ps) xs ≡ onwardBy n (waveOf h xs)
@@ -43,73 +44,90 @@ still-false : (a b : Bool) → (a && true) ≡ false → (a && b) ≡ false
 still-false true b e = never (sym e)
 still-false false b e = refl
 
--- the step of an ordinary instruction, of what the lanes made of registers and memories
-abbrev of-parts : Settings → Instr → Machine → Outcome → spec.Stepped
-of-parts s x m o =
-    stepAs (withBarrier 0 (o .faults)) (record {
-      wave = onwardBy (size (x .op)) (m .wave);
-      preds = withNamed (x .rd) (o .after .predicate) (m .preds);
-      regs = o .after .regs;
-      memories = o .after .memories;
-    }) m
-
 abbrev given : Faults → Machine → spec.Stepped
 given f m = record { faults = f; end = m }
 
-module _ (s : Settings) (x : Instr) (t p : ℕ) (h : Hot) (path regs device local regs′ device′ local′ : List ℕ) (r : Carried)
-    (named-is : p ≡ named (x .rd) (predsOf h))
-    (carries : carried r regs′ device′ local′ ≡ carriedOf (shapeOf s) x t (lent p regs device local)) where
-  abbrev before : Machine
-  before = machineOf h path regs device local
+-- a step goes where no lane faults, and stays where one does
+step-goes : (f : Faults) (went m : Machine) → clear f ≡ true → given f went ≡ stepAs f went m
+step-goes f went m e = rw e
 
-  carries-it : carried r regs′ device′ local′ ≡ computed s x t before
-  carries-it = carries ∙ ap (λ (q : ℕ). carriedOf (shapeOf s) x t (lent q regs device local)) named-is
+step-stays : (f : Faults) (went m : Machine) → clear f ≡ false → given f m ≡ stepAs f went m
+step-stays f went m e = rw e
 
-  -- the faults f that the code has
-  module _ (f : Faults) (with-none : f ≡ withBarrier 0 (r .faults)) where
-    -- no lane faults: on by the instruction's words
-    pub ordinary-on :
-        (n hot : Hot) (words : ℕ) → words ≡ size (x .op) → ((xs : List ℕ) → n ≡ hotOf (onwardBy words (waveOf h xs)) (predsOf h)) →
-        hot ≡ hotWith n (withNamed (x .rd) (r .predicate) (predsOf n)) → clear f ≡ true →
-        given f (machineOf hot path regs′ device′ local′) ≡ ordinaryOf s x t before
-    ordinary-on n hot words count goes is e =
-        let none : clear (withBarrier 0 (r .faults)) ≡ true = ap clear (sym with-none) ∙ e in
-        rw (is, goes path, count)
-        (ap (λ (w : Wave). given f (record { wave = w; preds = withNamed (x .rd) (r .predicate) (predsOf h); regs = regs′; memories = record { device = device′; local = local′ } }))
-        (onward-seen (size (x .op)) h (predsOf h) path)
-        ∙ (rw (with-none, none)) ∙ ap (of-parts s x before) carries-it)
+-- ---- ordinary instructions
+-- the machine of some hot numbers, and of registers and memories
+abbrev holding : Hot → List ℕ → Lent → Machine
+holding h path l = record { wave = waveOf h path; preds = predsOf h; regs = l .regs; memories = l .memories }
 
-    -- some lane faults: nothing was written
-    pub ordinary-off : clear f ≡ false → given f (machineOf h path regs′ device′ local′) ≡ ordinaryOf s x t before
-    ordinary-off e =
-        let none : clear (withBarrier 0 (r .faults)) ≡ false = ap clear (sym with-none) ∙ e in
-        let bad : clear (carriedOf (shapeOf s) x t (lent p regs device local) .faults) ≡ false =
-        ap (λ (o : Outcome). clear (o .faults)) (sym carries)
-        ∙ still-false (eqb (r .faults .odd) 0 && eqb (r .faults .device) 0 && eqb (r .faults .local) 0 && eqb (r .faults .divisor) 0)
-        (eqb (r .faults .barrier) 0) none in
-        let kept : lent (r .predicate) regs′ device′ local′ ≡ lent p regs device local =
-        ap (λ (o : Outcome). o .after) carries ∙ carrying.faulted (shapeOf s) x t (lent p regs device local) bad in
-        ap (λ (l : Lent). given f (record { wave = waveOf h path; preds = predsOf h; regs = l .regs; memories = l .memories })) kept
-        ∙ (rw (with-none, none)) ∙ ap (of-parts s x before) carries-it
+-- the machine after x, of what the lanes made of its predicate, its registers and memories
+abbrev moved : Instr → Machine → Lent → Machine
+moved x m l =
+    record {
+      wave = onwardBy (size (x .op)) (m .wave);
+      preds = withNamed (x .rd) (l .predicate) (m .preds);
+      regs = l .regs;
+      memories = l .memories;
+    }
+
+-- what is known once the lanes t have worked on l: the outcome o, the faults f of the step, and whether there are none
+pub record Worked (s : Settings) (x : Instr) (t : ℕ) (h : Hot) (l : Lent) (o : Outcome) (f : Faults) (none : Bool) : Type 0 where
+  pub predicate : l .predicate ≡ named (x .rd) (predsOf h)
+  pub carries : o ≡ carriedOf (shapeOf s) x t l
+  pub joins : f ≡ withBarrier 0 (o .faults)
+  pub tells : none ≡ clear f
+
+module _ {s : Settings} {x : Instr} {t : ℕ} {h : Hot} {l : Lent} {o : Outcome} {f : Faults} {none : Bool} (w : Worked s x t h l o f none)
+    (path : List ℕ) where
+  as-computed : o ≡ computed s x t (holding h path l)
+  as-computed =
+      w .carries ∙ ap (λ (p : ℕ). carriedOf (shapeOf s) x t (record { predicate = p; regs = l .regs; memories = l .memories })) (w .predicate)
+
+  as-ordinary : stepAs f (moved x (holding h path l) (o .after)) (holding h path l) ≡ ordinaryOf s x t (holding h path l)
+  as-ordinary =
+      ap (λ (g : Faults). stepAs g (moved x (holding h path l) (o .after)) (holding h path l)) (w .joins)
+      ∙ ap (λ (q : Outcome). stepAs (withBarrier 0 (q .faults)) (moved x (holding h path l) (q .after)) (holding h path l)) as-computed
+
+  -- no lane faults: on by the instruction's words
+  pub ordinary-on :
+      {words : ℕ} {n hot : Hot} → words ≡ size (x .op) → ((xs : List ℕ) → n ≡ hotOf (onwardBy words (waveOf h xs)) (predsOf h)) →
+      hot ≡ hotWith n (withNamed (x .rd) (o .after .predicate) (predsOf n)) → none ≡ true →
+      given f (holding hot path (o .after)) ≡ ordinaryOf s x t (holding h path l)
+  ordinary-on count goes is e =
+      rw (is, goes path, count)
+      (ap (λ (v : Wave). given f (record { wave = v; preds = withNamed (x .rd) (o .after .predicate) (predsOf h); regs = o .after .regs; memories = o .after .memories }))
+      (onward-seen (size (x .op)) h (predsOf h) path))
+      ∙ step-goes f (moved x (holding h path l) (o .after)) (holding h path l) (sym (w .tells) ∙ e)
+      ∙ as-ordinary
+
+  -- some lane faults: nothing was written
+  pub ordinary-off : none ≡ false → given f (holding h path (o .after)) ≡ ordinaryOf s x t (holding h path l)
+  ordinary-off e =
+      let bad : clear f ≡ false = sym (w .tells) ∙ e in
+      let faulty : clear (o .faults) ≡ false =
+      still-false (eqb (o .faults .odd) 0 && eqb (o .faults .device) 0 && eqb (o .faults .local) 0 && eqb (o .faults .divisor) 0)
+      (eqb (o .faults .barrier) 0) (ap clear (sym (w .joins)) ∙ bad) in
+      let kept : o .after ≡ l =
+      ap (λ (q : Outcome). q .after) (w .carries)
+      ∙ carrying.faulted (shapeOf s) x t l (ap (λ (q : Outcome). clear (q .faults)) (sym (w .carries)) ∙ faulty) in
+      ap (λ (k : Lent). given f (holding h path k)) kept
+      ∙ step-stays f (moved x (holding h path l) (o .after)) (holding h path l) bad
+      ∙ as-ordinary
+
+-- ---- the step of any instruction
+-- what is known of an instruction before it is carried out: its executing lanes t, and whether it is a control instruction
+pub record Looked (x : Instr) (h : Hot) (t : ℕ) (kind : ControlIn) : Type 0 where
+  pub lanes : t ≡ executingOf (x .guard) (h .active) (predsOf h)
+  pub is : kind ≡ controlIn (x .op)
 
 -- an instruction that is no control instruction takes an ordinary step
 pub step-ordinary :
-    (s : Settings) (x : Instr) (t : ℕ) (m : Machine) → t ≡ lanesOf x m → controlIn (x .op) ≡ ControlIn.Other →
-    ordinaryOf s x t m ≡ stepOf s x m
+    {x : Instr} {h : Hot} {t : ℕ} {kind : ControlIn} → Looked x h t kind → kind ≡ ControlIn.Other →
+    (s : Settings) (path regs device local : List ℕ) →
+    ordinaryOf s x t (machineOf h path regs device local) ≡ stepOf s x (machineOf h path regs device local)
 unfolding stepOf
-step-ordinary s x t m lanes is = rw (lanes, is)
+step-ordinary l other s path regs device local = rw (l .lanes, sym (l .is) ∙ other)
 
 -- ---- control
--- a predicate that is given what it has
-chosen-same : (a b c : Bool) (ps : Preds) → cond a (preds (cond a (ps .p1) (cond b (ps .p2) (cond c (ps .p3) 0))) (ps .p2) (ps .p3)) (cond b (preds (ps .p1) (cond a (ps .p1) (cond b (ps .p2) (cond c (ps .p3) 0))) (ps .p3)) (cond c (preds (ps .p1) (ps .p2) (cond a (ps .p1) (cond b (ps .p2) (cond c (ps .p3) 0)))) ps)) ≡ ps
-chosen-same true b c ps = refl
-chosen-same false true c ps = refl
-chosen-same false false true ps = refl
-chosen-same false false false ps = refl
-
-named-same : (k : ℕ) (ps : Preds) → withNamed k (named k ps) ps ≡ ps
-named-same k ps = chosen-same (eqb k 1) (eqb k 2) (eqb k 3) ps
-
 -- a barrier that faults leaves the wave as it was
 barred-by : (b : Bool) (a : ℕ) (v w : Wave) → eqb (cond b a 0) 0 ≡ false → cond b w v ≡ w
 barred-by true a v w e = refl
@@ -133,7 +151,8 @@ either-way : (b : Bool) (v w : Wave) (m : Wave → Machine) → (b ≡ false →
 either-way true v w m h = refl
 either-way false v w m h = ap m (h refl)
 
-module _ (s : Settings) (x : Instr) (o : ControlOp) (h : Hot) (path path′ regs device local : List ℕ) (r : Stepped) (is : controlIn (x .op) ≡ ControlIn.Control o) where
+module _ (s : Settings) (x : Instr) (o : ControlOp) (h : Hot) (path path′ regs device local : List ℕ) (r : Stepped)
+    (is : controlIn (x .op) ≡ ControlIn.Control o) where
   abbrev at : Machine
   at = machineOf h path regs device local
 
@@ -153,8 +172,11 @@ module _ (s : Settings) (x : Instr) (o : ControlOp) (h : Hot) (path path′ regs
       (either-way (eqb (faultLanes o (launchedOf s) (waveOf h path)) 0) _ (waveOf h path) with-wave
       (stays o (launchedOf s) (lanesOf x at) (waveOf h path))))
 
-  -- the faults, the launched and the executing lanes that the code has
-  pub step-control :
-      (f : Faults) (all t : ℕ) → f ≡ withBarrier (r .barrier) noFaults → all ≡ launchedOf s → t ≡ lanesOf x at →
-      Seen o all t h path r path′ → given f (machineOf (r .hot) path′ regs device local) ≡ stepOf s x at
-  step-control f all t alone launched lanes q = rw alone (by-rule (rw (launched, lanes) at q))
+-- a control instruction goes by its rule
+pub step-control :
+    {x : Instr} {h : Hot} {t : ℕ} {kind : ControlIn} {o : ControlOp} {all : ℕ} {r : Stepped} {f : Faults} →
+    Looked x h t kind → kind ≡ ControlIn.Control o → (s : Settings) (path path′ regs device local : List ℕ) →
+    all ≡ launchedOf s → Seen o all t h path r path′ → f ≡ withBarrier (r .barrier) noFaults →
+    given f (machineOf (r .hot) path′ regs device local) ≡ stepOf s x (machineOf h path regs device local)
+step-control {x = x} {h = h} {o = o} {r = r} l control s path path′ regs device local launched q alone =
+    rw alone (by-rule s x o h path path′ regs device local r (sym (l .is) ∙ control) (rw (launched, l .lanes) at q))

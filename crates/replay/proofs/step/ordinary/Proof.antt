@@ -1,9 +1,27 @@
 -- On by the instruction's words where no lane faults; and else as before it.
-use mathlib.Core.Path.{sym, _∙_}
-use Rattle.replay.proofs.Stepping.{ordinary-on, ordinary-off}
+use Rattle.compute.specs.Operands.{lent}
+use Rattle.compute.specs.Carrying.{carried}
+use Rattle.replay.proofs.Stepping.{Worked, ordinary-on, ordinary-off}
 use borrow.Author.Needs.{needs}
 use Rattle.replay.proofs.step.ordinary.Statement.{statement}
 use Rattle.replay.proofs.step.ordinary.Tie as tie
+
+-- what is known once the lanes have worked
+worked : (z : tie.After-is-clear) →
+    let made = z .before .before .before .before .before .before .before .before in
+    let named = made .before .before .before .before in
+    let a = named .before .before .before .before .args in
+    let l = made .carry-out .last .1 .1 .1 .1 in
+    Worked (a .settings) (a .x) (a .t) (a .h) (lent (named .named-set .result) (a .regs .now) (a .device .now) (a .local .now))
+    (carried (made .carry-out .result) (l .0) (l .1 .0) (l .1 .1 .0)) (z .before .with-barrier .result) (z .is-clear .result)
+worked z =
+    let made = z .before .before .before .before .before .before .before .before in
+    record {
+      predicate = made .before .before .before .before .named-set .ensures;
+      carries = made .carry-out .ensures;
+      joins = z .before .with-barrier .ensures;
+      tells = z .is-clear .ensures;
+    }
 
 named-set-requires : tie.Need-named-set-requires
 named-set-requires c κs = search needs
@@ -37,9 +55,8 @@ same-length-3 c = search needs
 
 returns : tie.Need-returns
 returns c = λ path.
-    let a = c .before .before .before .before .before .before .before .before .before .before .before .before .before .before .before .before .before .before .before .before .args in
-    ordinary-on (a .settings) _ _ _ (a .h) path _ _ _ _ _ _ _ (c .before .before .before .before .before .before .before .before .before .before .before .before .before .before .before .before .named-set .ensures) (c .before .before .before .before .before .before .before .before .before .before .before .before .carry-out .ensures) _ (c .before .before .before .before .before .with-barrier .ensures)
-    _ _ _ (c .before .before .word-count .ensures) (c .before .onward-by .ensures) (c .with-named .ensures) (sym (c .before .before .before .before .is-clear .ensures) ∙ c .before .before .before .if1 .taken)
+    let clear = c .before .before .before in
+    ordinary-on (worked (clear .before)) path (c .before .before .word-count .ensures) (c .before .onward-by .ensures) (c .with-named .ensures) (clear .if1 .taken)
 
 same-length-4 : tie.Need-same-length-4
 same-length-4 c = search needs
@@ -51,10 +68,7 @@ same-length-6 : tie.Need-same-length-6
 same-length-6 c = search needs
 
 returns-2 : tie.Need-returns-2
-returns-2 c = λ path.
-    let a = c .before .before .before .before .before .before .before .before .before .before .before .before .before .before .before .before .before .args in
-    ordinary-off (a .settings) _ _ _ (a .h) path _ _ _ _ _ _ _ (c .before .before .before .before .before .before .before .before .before .before .before .before .before .named-set .ensures) (c .before .before .before .before .before .before .before .before .before .carry-out .ensures) _ (c .before .before .with-barrier .ensures)
-    (sym (c .before .is-clear .ensures) ∙ c .if1 .left)
+returns-2 c = λ path. ordinary-off (worked (c .before)) path (c .if1 .left)
 
 pub ordinary-spec : {M : Type 1} → statement M
 ordinary-spec =

@@ -1,10 +1,16 @@
 -- A control instruction goes by its rule, any other by the lanes' work.
-use mathlib.Core.Path.{sym, _∙_}
+use mathlib.Core.Path.{_∙_}
 use Rattle.wave.proofs.View.{seen}
-use Rattle.replay.proofs.Stepping.{step-control, step-ordinary}
+use Rattle.replay.proofs.Stepping.{Looked, step-control, step-ordinary}
 use borrow.Author.Needs.{needs}
 use Rattle.replay.proofs.step.step.Statement.{statement}
 use Rattle.replay.proofs.step.step.Tie as tie
+
+-- what is known once the instruction was looked at
+looked : (z : tie.After-control-in) →
+    let a = z .before .before .before .before .before .before .args in
+    Looked (a .x) (a .h) (z .before .executing .result) (z .control-in .result)
+looked z = record { lanes = z .before .executing .ensures; is = z .control-in .ensures }
 
 executing-requires : tie.Need-executing-requires
 executing-requires c κs = search needs
@@ -35,9 +41,13 @@ ordinary-requires c κs = search needs
 
 returns : tie.Need-returns
 returns c =
-    let a = c .before .before .before .before .before .before .before .before .before .before .before .before .before .before .before .before .args in
-    step-control (a .settings) (a .x) _ (a .h) (a .path .now) _ _ _ _ _ (sym (c .before .before .before .before .before .before .before .before .before .before .control-in .ensures) ∙ c .before .before .before .before .before .before .before .before .kind .given .1) _ _ _ (c .barrier-alone .ensures)
-    (c .before .before .before .before .first .ensures) (c .before .before .before .before .before .before .before .before .before .before .before .executing .ensures) (seen _ _ _ (a .h) (a .path .now) _ _ (c .before .before .before .before .before .whole .ensures) (c .before .before .control .ensures))
+    let ruled = c .before .before in
+    let counted = ruled .before .before in
+    let known = counted .before .before .before .before in
+    let read = known .before .before in
+    let a = read .before .before .before .before .before .before .args in
+    step-control (looked read) (known .kind .given .1) _ (a .path .now) _ _ _ _ (counted .first .ensures)
+    (seen _ _ _ (a .h) (a .path .now) _ _ (counted .before .whole .ensures) (ruled .control .ensures)) (c .barrier-alone .ensures)
 
 same-length : tie.Need-same-length
 same-length c = search needs
@@ -50,8 +60,9 @@ same-length-3 c = search needs
 
 returns-2 : tie.Need-returns-2
 returns-2 c =
-    c .before .before .before .before .before .before .ordinary .ensures (c .before .before .before .before .before .before .before .before .before .before .before .before .before .before .before .before .before .before .args .path .now)
-    ∙ step-ordinary _ _ _ _ (c .before .before .before .before .before .before .before .before .before .before .before .before .before .executing .ensures) (sym (c .before .before .before .before .before .before .before .before .before .before .before .before .control-in .ensures) ∙ c .before .before .before .before .before .before .before .before .before .before .enum-told .given .1)
+    let went = c .before .before .before .before .before .before in
+    let other = went .before .before .before .before in
+    went .ordinary .ensures _ ∙ step-ordinary (looked (other .before .before)) (other .enum-told .given .1) _ _ _ _ _
 
 pub step-spec : {M : Type 1} → statement M
 step-spec =
