@@ -5,6 +5,7 @@ use mathlib.Core.List.{List}
 use Prim.Native.Nat.{ℕ, min}
 use native.Mathlib.Nat.{min-le-right, min-eq-left}
 use lib.Dec.{eqb}
+use lib.ListN.{length}
 use Rattle.ground.proofs.Bools.{never}
 use Rattle.words.specs.declared.instr.Instr.{Instr}
 use Rattle.words.specs.declared.instr.ControlOp.{ControlOp}
@@ -18,9 +19,11 @@ use Rattle.wave.specs.declared.rules.Stepped.{Stepped}
 use Rattle.blocks.specs.Scan.{nesting}
 use Rattle.wave.specs.Wave.{Wave, Preds, waveOf, predsOf, hotOf}
 use Rattle.wave.specs.Rules.{executingOf, onwardBy, onward, barred}
+use Rattle.wave.specs.Layout.{pathNumbers}
 use Rattle.wave.specs.Control.{controlRule, faultLanes}
+use Rattle.wave.specs.Control as ruled
 use Rattle.wave.proofs.Laying.{length-opened}
-use Rattle.wave.proofs.View.{Seen}
+use Rattle.wave.proofs.View.{Seen, seen}
 use Rattle.compute.specs.declared.Faults.{Faults}
 use Rattle.compute.specs.declared.Carried.{Carried}
 use Rattle.compute.specs.Operands.{Lent, lent}
@@ -55,19 +58,16 @@ step-stays : (f : Faults) (went m : Machine) → clear f ≡ false → given f m
 step-stays f went m e = rw e
 
 -- ---- ordinary instructions
--- the machine of some hot numbers, and of registers and memories
+-- a machine of registers and memories
+abbrev standing : Wave → Preds → Lent → Machine
+standing w ps l = record { wave = w; preds = ps; regs = l .regs; memories = l .memories }
+
 abbrev holding : Hot → List ℕ → Lent → Machine
-holding h path l = record { wave = waveOf h path; preds = predsOf h; regs = l .regs; memories = l .memories }
+holding h path l = standing (waveOf h path) (predsOf h) l
 
 -- the machine after x, of what the lanes made of its predicate, its registers and memories
 abbrev moved : Instr → Machine → Lent → Machine
-moved x m l =
-    record {
-      wave = onwardBy (size (x .op)) (m .wave);
-      preds = withNamed (x .rd) (l .predicate) (m .preds);
-      regs = l .regs;
-      memories = l .memories;
-    }
+moved x m l = standing (onwardBy (size (x .op)) (m .wave)) (withNamed (x .rd) (l .predicate) (m .preds)) l
 
 -- what is known once the lanes t have worked on l: the outcome o, the faults f of the step, and whether there are none
 pub record Worked (s : Settings) (x : Instr) (t : ℕ) (h : Hot) (l : Lent) (o : Outcome) (f : Faults) (none : Bool) : Type 0 where
@@ -94,7 +94,7 @@ module _ {s : Settings} {x : Instr} {t : ℕ} {h : Hot} {l : Lent} {o : Outcome}
       given f (holding hot path (o .after)) ≡ ordinaryOf s x t (holding h path l)
   ordinary-on count goes is e =
       rw (is, goes path, count)
-      (ap (λ (v : Wave). given f (record { wave = v; preds = withNamed (x .rd) (o .after .predicate) (predsOf h); regs = o .after .regs; memories = o .after .memories }))
+      (ap (λ (v : Wave). given f (standing v (withNamed (x .rd) (o .after .predicate) (predsOf h)) (o .after)))
       (onward-seen (size (x .op)) h (predsOf h) path))
       ∙ step-goes f (moved x (holding h path l) (o .after)) (holding h path l) (sym (w .tells) ∙ e)
       ∙ as-ordinary
@@ -174,9 +174,10 @@ module _ (s : Settings) (x : Instr) (o : ControlOp) (h : Hot) (path path′ regs
 
 -- a control instruction goes by its rule
 pub step-control :
-    {x : Instr} {h : Hot} {t : ℕ} {kind : ControlIn} {o : ControlOp} {all : ℕ} {r : Stepped} {f : Faults} →
-    Looked x h t kind → kind ≡ ControlIn.Control o → (s : Settings) (path path′ regs device local : List ℕ) →
-    all ≡ launchedOf s → Seen o all t h path r path′ → f ≡ withBarrier (r .barrier) noFaults →
+    {x : Instr} {h : Hot} {t : ℕ} {kind : ControlIn} {o : ControlOp} {all : ℕ} {r : Stepped} {f : Faults} {path′ regs device local : List ℕ} →
+    Looked x h t kind → kind ≡ ControlIn.Control o → (s : Settings) (path : List ℕ) → all ≡ launchedOf s → length path ≡ pathNumbers →
+    ruled.given r path′ ≡ ruled.controlOf o all t h path → f ≡ withBarrier (r .barrier) noFaults →
     given f (machineOf (r .hot) path′ regs device local) ≡ stepOf s x (machineOf h path regs device local)
-step-control {x = x} {h = h} {o = o} {r = r} l control s path path′ regs device local launched q alone =
-    rw alone (by-rule s x o h path path′ regs device local r (sym (l .is) ∙ control) (rw (launched, l .lanes) at q))
+step-control {x = x} {h = h} {o = o} {r = r} l control s path launched long e alone =
+    let q = seen o _ _ h path r _ long e in
+    rw alone (by-rule s x o h path _ _ _ _ r (sym (l .is) ∙ control) (rw (launched, l .lanes) at q))

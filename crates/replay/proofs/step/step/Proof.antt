@@ -1,6 +1,5 @@
 -- A control instruction goes by its rule, any other by the lanes' work.
 use mathlib.Core.Path.{_∙_}
-use Rattle.wave.proofs.View.{seen}
 use Rattle.replay.proofs.Stepping.{Looked, step-control, step-ordinary}
 use borrow.Author.Needs.{needs}
 use Rattle.replay.proofs.step.step.Statement.{statement}
@@ -46,8 +45,8 @@ returns c =
     let known = counted .before .before .before .before in
     let read = known .before .before in
     let a = read .before .before .before .before .before .before .args in
-    step-control (looked read) (known .kind .given .1) _ (a .path .now) _ _ _ _ (counted .first .ensures)
-    (seen _ _ _ (a .h) (a .path .now) _ _ (counted .before .whole .ensures) (ruled .control .ensures)) (c .barrier-alone .ensures)
+    step-control (looked read) (known .kind .given .1) _ (a .path .now) (counted .first .ensures) (counted .before .whole .ensures)
+    (ruled .control .ensures) (c .barrier-alone .ensures)
 
 same-length : tie.Need-same-length
 same-length c = search needs
