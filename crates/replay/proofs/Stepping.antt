@@ -20,15 +20,14 @@ use Rattle.blocks.specs.Scan.{nesting}
 use Rattle.wave.specs.Wave.{Wave, Preds, waveOf, predsOf, hotOf}
 use Rattle.wave.specs.Rules.{executingOf, onwardBy, onward, barred}
 use Rattle.wave.specs.Layout.{pathNumbers}
-use Rattle.wave.specs.Control.{controlRule, faultLanes}
+use Rattle.wave.specs.Control.{controlRule, faultLanes, controlOf}
 use Rattle.wave.specs.Control as ruled
 use Rattle.wave.proofs.Laying.{length-opened}
 use Rattle.wave.proofs.View.{Seen, seen}
 use Rattle.compute.specs.declared.Faults.{Faults}
-use Rattle.compute.specs.declared.Carried.{Carried}
 use Rattle.compute.specs.Operands.{Lent, lent}
 use Rattle.compute.specs.Faulting.{clear}
-use Rattle.compute.specs.Carrying.{Outcome, outcome, carried, carriedOf}
+use Rattle.compute.specs.Carrying.{Outcome, outcome, carriedOf}
 use Rattle.compute.proofs.Carrying as carrying
 use Rattle.replay.specs.declared.settings.Settings.{Settings}
 use Rattle.replay.specs.Machine.{Machine, machineOf, named, withNamed, hotWith}
@@ -78,29 +77,35 @@ pub record Worked (s : Settings) (x : Instr) (t : ℕ) (h : Hot) (l : Lent) (o :
 
 module _ {s : Settings} {x : Instr} {t : ℕ} {h : Hot} {l : Lent} {o : Outcome} {f : Faults} {none : Bool} (w : Worked s x t h l o f none)
     (path : List ℕ) where
-  as-computed : o ≡ computed s x t (holding h path l)
+  abbrev was : Machine
+  was = holding h path l
+
+  abbrev went : Machine
+  went = moved x was (o .after)
+
+  as-computed : o ≡ computed s x t was
   as-computed =
       w .carries ∙ ap (λ (p : ℕ). carriedOf (shapeOf s) x t (record { predicate = p; regs = l .regs; memories = l .memories })) (w .predicate)
 
-  as-ordinary : stepAs f (moved x (holding h path l) (o .after)) (holding h path l) ≡ ordinaryOf s x t (holding h path l)
+  as-ordinary : stepAs f went was ≡ ordinaryOf s x t was
   as-ordinary =
-      ap (λ (g : Faults). stepAs g (moved x (holding h path l) (o .after)) (holding h path l)) (w .joins)
-      ∙ ap (λ (q : Outcome). stepAs (withBarrier 0 (q .faults)) (moved x (holding h path l) (q .after)) (holding h path l)) as-computed
+      ap (λ (g : Faults). stepAs g went was) (w .joins)
+      ∙ ap (λ (q : Outcome). stepAs (withBarrier 0 (q .faults)) (moved x was (q .after)) was) as-computed
 
   -- no lane faults: on by the instruction's words
   pub ordinary-on :
       {words : ℕ} {n hot : Hot} → words ≡ size (x .op) → ((xs : List ℕ) → n ≡ hotOf (onwardBy words (waveOf h xs)) (predsOf h)) →
       hot ≡ hotWith n (withNamed (x .rd) (o .after .predicate) (predsOf n)) → none ≡ true →
-      given f (holding hot path (o .after)) ≡ ordinaryOf s x t (holding h path l)
+      given f (holding hot path (o .after)) ≡ ordinaryOf s x t was
   ordinary-on count goes is e =
       rw (is, goes path, count)
       (ap (λ (v : Wave). given f (standing v (withNamed (x .rd) (o .after .predicate) (predsOf h)) (o .after)))
       (onward-seen (size (x .op)) h (predsOf h) path))
-      ∙ step-goes f (moved x (holding h path l) (o .after)) (holding h path l) (sym (w .tells) ∙ e)
+      ∙ step-goes f went was (sym (w .tells) ∙ e)
       ∙ as-ordinary
 
   -- some lane faults: nothing was written
-  pub ordinary-off : none ≡ false → given f (holding h path (o .after)) ≡ ordinaryOf s x t (holding h path l)
+  pub ordinary-off : none ≡ false → given f (holding h path (o .after)) ≡ ordinaryOf s x t was
   ordinary-off e =
       let bad : clear f ≡ false = sym (w .tells) ∙ e in
       let faulty : clear (o .faults) ≡ false =
@@ -110,7 +115,7 @@ module _ {s : Settings} {x : Instr} {t : ℕ} {h : Hot} {l : Lent} {o : Outcome}
       ap (λ (q : Outcome). q .after) (w .carries)
       ∙ carrying.faulted (shapeOf s) x t l (ap (λ (q : Outcome). clear (q .faults)) (sym (w .carries)) ∙ faulty) in
       ap (λ (k : Lent). given f (holding h path k)) kept
-      ∙ step-stays f (moved x (holding h path l) (o .after)) (holding h path l) bad
+      ∙ step-stays f went was bad
       ∙ as-ordinary
 
 -- ---- the step of any instruction
@@ -176,7 +181,7 @@ module _ (s : Settings) (x : Instr) (o : ControlOp) (h : Hot) (path path′ regs
 pub step-control :
     {x : Instr} {h : Hot} {t : ℕ} {kind : ControlIn} {o : ControlOp} {all : ℕ} {r : Stepped} {f : Faults} {path′ regs device local : List ℕ} →
     Looked x h t kind → kind ≡ ControlIn.Control o → (s : Settings) (path : List ℕ) → all ≡ launchedOf s → length path ≡ pathNumbers →
-    ruled.given r path′ ≡ ruled.controlOf o all t h path → f ≡ withBarrier (r .barrier) noFaults →
+    ruled.given r path′ ≡ controlOf o all t h path → f ≡ withBarrier (r .barrier) noFaults →
     given f (machineOf (r .hot) path′ regs device local) ≡ stepOf s x (machineOf h path regs device local)
 step-control {x = x} {h = h} {o = o} {r = r} l control s path launched long e alone =
     let q = seen o _ _ h path r _ long e in

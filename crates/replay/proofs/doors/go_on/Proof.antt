@@ -1,6 +1,6 @@
 -- By the verdict of the tests: the refusal, or the run from the state.
-use mathlib.Core.Path.{sym, _∙_}
-use Rattle.replay.proofs.Entering.{go-on-refused, go-on-ran}
+use Rattle.replay.specs.Replay.{goOnOf}
+use Rattle.replay.proofs.Entering.{refused-by, run-by}
 use borrow.Author.Needs.{needs}
 use Rattle.replay.proofs.doors.go_on.Statement.{statement}
 use Rattle.replay.proofs.doors.go_on.Tie as tie
@@ -24,9 +24,8 @@ same-length : tie.Need-same-length
 same-length c = search needs
 
 returns : tie.Need-returns
-returns c = let a = c .before .before .before .before .before .before .before .before .before .before .args in
-    go-on-refused (a .settings) (a .code .now) (a .regs .now) (a .device .now) (a .local .now) _ (a .state) _ _
-    (sym (c .before .before .before .before .test-bounds .ensures) ∙ c .before .before .test .given .1) (c .refused .ensures)
+unfolding goOnOf
+returns c = refused-by (c .before .before .before .before .test-bounds .ensures) _ (c .before .before .test .given .1) (c .refused .ensures)
 
 same-length-2 : tie.Need-same-length-2
 same-length-2 c = search needs
@@ -38,13 +37,11 @@ same-length-4 : tie.Need-same-length-4
 same-length-4 c = search needs
 
 returns-2 : tie.Need-returns-2
+unfolding goOnOf
 returns-2 c =
     let ran = c .before .before .before .before .before .before in
     let fine = ran .before .before .before .before in
-    let tested = fine .before .before in
-    let a = tested .before .before .before .before .before .before .args in
-    go-on-ran (a .settings) (a .code .now) (a .regs .now) (a .device .now) (a .local .now) _ (a .state) _ _ _
-    (sym (tested .test-bounds .ensures) ∙ fine .enum-told .given .1) (ran .run-from .ensures)
+    run-by (fine .before .before .test-bounds .ensures) _ _ _ _ (fine .enum-told .given .1) (ran .run-from .ensures)
 
 pub go-on-spec : {M : Type 1} → statement M
 go-on-spec =

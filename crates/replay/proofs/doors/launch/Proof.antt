@@ -1,6 +1,7 @@
 -- By the verdict of the tests: the refusal, or local memory filled and the run from the launched state.
-use mathlib.Core.Path.{sym, _∙_}
-use Rattle.replay.proofs.Entering.{launch-refused, launch-ran}
+use mathlib.Core.Path.{ap, _∙_}
+use Rattle.replay.specs.Replay.{refusedAs, launchOf}
+use Rattle.replay.proofs.Entering.{refused-by, run-by, launched-run}
 use borrow.Author.Needs.{needs}
 use Rattle.replay.proofs.doors.launch.Statement.{statement}
 use Rattle.replay.proofs.doors.launch.Tie as tie
@@ -33,9 +34,11 @@ same-length : tie.Need-same-length
 same-length c = search needs
 
 returns : tie.Need-returns
-returns c = let a = c .before .before .before .before .before .before .before .before .before .before .before .args in
-    launch-refused (a .settings) (a .code .now) (a .regs .now) (a .device .now) (a .local .now) _ _ _ _
-    (sym (c .before .before .before .before .before .test-launch .ensures) ∙ c .before .before .before .test .given .1) (c .before .not-launched .ensures) (c .refused .ensures)
+unfolding launchOf
+returns c =
+    let told = c .before .before .before in
+    refused-by (told .before .before .test-launch .ensures) _ (told .test .given .1)
+    (c .refused .ensures ∙ ap (refusedAs _ _) (c .before .not-launched .ensures))
 
 same-length-2 : tie.Need-same-length-2
 same-length-2 c = search needs
@@ -47,6 +50,7 @@ same-length-4 : tie.Need-same-length-4
 same-length-4 c = search needs
 
 returns-2 : tie.Need-returns-2
+unfolding launchOf
 returns-2 c =
     let ran = c .before .before .before .before .before .before in
     let made = ran .before .before .before .before in
@@ -54,8 +58,8 @@ returns-2 c =
     let fine = zeroed .before .before in
     let tested = fine .before .before in
     let a = tested .before .before .before .before .before .before .args in
-    launch-ran (a .settings) (a .code .now) (a .regs .now) (a .device .now) (a .local .now) _ _ _ _ _ _
-    (sym (tested .test-launch .ensures) ∙ fine .enum-told .given .1) (zeroed .fill-with .ensures) (made .launched .ensures) (ran .run-from .ensures)
+    run-by (tested .test-launch .ensures) _ _ _ _ (fine .enum-told .given .1)
+    (launched-run _ _ _ _ (a .local .now) (zeroed .fill-with .ensures) (made .launched .ensures) (ran .run-from .ensures))
 
 pub launch-spec : {M : Type 1} → statement M
 launch-spec =
