@@ -26,36 +26,42 @@ use Rattle.replay.specs.Replay.{
   launchMachine,
 }
 
+-- an answer, of the numbers and the blocks that its state holds
+abbrev with-state : Stopped → List ℕ → List ℕ → List ℕ → Held → Answered
+with-state a regs device local x =
+    answered (record { outcome = a .outcome; steps = a .steps; state = record { hot = x .hot; blocks = x .numbers } }) regs device local
+
 -- the answer of a run that stopped, its state made tidy
 pub ends-tidy :
-    (a : Stopped) (r : Ran) (end : Hot) (path tidied regs device local : List ℕ) → gone a path regs device local ≡ r →
+    (a : Stopped) (path : List ℕ) {r : Ran} {end : Hot} {tidied regs device local : List ℕ} → gone a path regs device local ≡ r →
     held end tidied ≡ held (hotOf (waveOf (a .hot) path) (predsOf (a .hot))) (arrayOf (waveOf (a .hot) path .path)) →
-    answered (record { outcome = a .outcome; steps = a .steps; state = record { hot = end; blocks = tidied } }) regs device local ≡ ending r
-ends-tidy a r end path tidied regs device local stopped tidy =
-    ap (λ (x : Held). answered (record { outcome = a .outcome; steps = a .steps; state = record { hot = x .hot; blocks = x .numbers } }) regs device local) tidy
-    ∙ ap ending stopped
+    with-state a regs device local (held end tidied) ≡ ending r
+ends-tidy a path stopped tidy = ap (with-state a _ _ _) tidy ∙ ap ending stopped
 
 -- ---- by the verdict v of a test
-module _ {v test : Checked} (says : v ≡ test) (run : Unit {0} → Answered) where
+module _ {v test : Checked} (says : v ≡ test) where
+  -- the tests, one after the other
+  pub stops : (next : Checked) {number place : ℕ} → v ≡ Checked.Refused number place → Checked.Refused number place ≡ thenTest test next
+  stops next refuses = rw (← says) (rw refuses)
+
+  pub goes-on : (next : Checked) {x : Checked} → v ≡ Checked.Fine → x ≡ next → x ≡ thenTest test next
+  goes-on next fine e = rw (← says) (rw fine e)
+
+  -- the answer: a refusal, or the run
   pub refused-by :
-      {number place : ℕ} {r : Replayed} {state : State} {regs device local : List ℕ} → v ≡ Checked.Refused number place →
-      r ≡ refusedAs number place state → answered r regs device local ≡ byTest test run state regs (memories device local)
-  refused-by refuses e = rw (← says) (rw (refuses, e))
+      (run : Unit {0} → Answered) {number place : ℕ} {r : Replayed} {state : State} {regs device local : List ℕ} →
+      v ≡ Checked.Refused number place → r ≡ refusedAs number place state →
+      answered r regs device local ≡ byTest test run state regs (memories device local)
+  refused-by run refuses e = rw (← says) (rw (refuses, e))
 
   pub run-by :
-      (state : State) (regs : List ℕ) (y : Memories) {x : Answered} → v ≡ Checked.Fine → x ≡ run tt → x ≡ byTest test run state regs y
-  run-by state regs y fine e = rw (← says) (rw fine e)
+      (run : Unit {0} → Answered) (state : State) (regs : List ℕ) (y : Memories) {x : Answered} → v ≡ Checked.Fine → x ≡ run tt →
+      x ≡ byTest test run state regs y
+  run-by run state regs y fine e = rw (← says) (rw fine e)
 
--- the machine of a launch
+-- the run from a launched state, local memory filled, is that of a launch
 pub launched-run :
     (s : Settings) (code regs device local : List ℕ) {full : List ℕ} {state : State} {x : Answered} → full ≡ filled local →
     state ≡ stateOf (launch (launchedLanes s)) clear → x ≡ runFrom s code (stateMachine state regs device full) →
     x ≡ runFrom s code (launchMachine s regs device local)
 launched-run s code regs device local fills is e = e ∙ rw (fills, is)
-
--- ---- the tests, one after the other
-pub stops : (v next : Checked) {number place : ℕ} → v ≡ Checked.Refused number place → Checked.Refused number place ≡ thenTest v next
-stops v next e = rw e
-
-pub goes-on : (v next : Checked) {x : Checked} → v ≡ Checked.Fine → x ≡ next → x ≡ thenTest v next
-goes-on v next e q = rw e q

@@ -20,7 +20,9 @@ same-length-3 : tie.Need-same-length-3
 same-length-3 c = search needs
 
 returns : tie.Need-returns
-returns c = ends-tidy (c .before .before .before .before .before .before .before .before .go .result) _ _ _ _ _ _ _ (c .before .before .before .before .before .before .before .before .go .ensures) (c .tidy .ensures)
+returns c =
+    let ran = c .before .before .before .before .before .before .before .before .go in
+    ends-tidy (ran .result) _ (ran .ensures) (c .tidy .ensures)
 
 pub run-from-spec : {M : Type 1} → statement M
 run-from-spec =

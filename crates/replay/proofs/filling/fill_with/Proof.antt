@@ -30,7 +30,9 @@ loop-less : tie.Need-loop-less Inv-loop μ-loop
 loop-less c = omega (arith, c .before .loop .inv .1 .0)
 
 loop-again : tie.Need-loop-again Inv-loop μ-loop
-loop-again c = (fill-turn _ _ _ _ (c .before .loop .inv .0) (omega (arith, c .before .loop .inv .1 .0)), (simp length-set (c .before .loop .inv .1 .0), omega (arith, c .before .loop .inv .1 .0)))
+loop-again c =
+    let was = c .before .loop .inv in
+    (fill-turn _ _ _ _ (was .0) (omega (arith, was .1 .0)), (simp length-set (was .1 .0), omega (arith, was .1 .0)))
 
 same-length : tie.Need-same-length Inv-loop μ-loop
 same-length c = c .before .loop .inv .1 .0

@@ -32,7 +32,18 @@ then-test-requires-2 : tie.Need-then-test-requires-2
 then-test-requires-2 c κs = search needs
 
 returns : tie.Need-returns
-returns c = rw (c .then-test2 .ensures, c .before .then-test .ensures, c .before .before .refuse-unless3 .ensures, c .before .before .before .before .before .refuse-unless2 .ensures, c .before .before .before .before .before .before .refuse-unless .ensures, c .before .before .before .before .before .before .before .settings-right .ensures)
+returns c =
+    let last = c .before .before in
+    let short = last .before .before .before in
+    let set = short .before in
+    rw (
+      c .then-test2 .ensures,
+      c .before .then-test .ensures,
+      last .refuse-unless3 .ensures,
+      short .refuse-unless2 .ensures,
+      set .refuse-unless .ensures,
+      set .before .settings-right .ensures,
+    )
 
 pub test-bounds-spec : {M : Type 1} → statement M
 test-bounds-spec =

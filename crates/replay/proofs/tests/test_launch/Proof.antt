@@ -1,5 +1,4 @@
 -- The first test that refuses, or the check of the code.
-use mathlib.Core.Path.{sym, _∙_}
 use Rattle.replay.proofs.Entering.{stops, goes-on}
 use borrow.Author.Needs.{needs}
 use Rattle.replay.proofs.tests.test_launch.Statement.{statement}
@@ -18,10 +17,10 @@ check-requires : tie.Need-check-requires
 check-requires c κs = search needs
 
 returns : tie.Need-returns
-returns c = stops _ _ (sym (c .before .before .before .test-bounds .ensures) ∙ c .before .bounds .given .1)
+returns c = stops (c .before .before .before .test-bounds .ensures) _ (c .before .bounds .given .1)
 
 returns-2 : tie.Need-returns-2
-returns-2 c = goes-on _ _ (sym (c .before .before .before .test-bounds .ensures) ∙ c .before .enum-told .given .1) (c .check .ensures)
+returns-2 c = goes-on (c .before .before .before .test-bounds .ensures) _ (c .before .enum-told .given .1) (c .check .ensures)
 
 pub test-launch-spec : {M : Type 1} → statement M
 test-launch-spec =

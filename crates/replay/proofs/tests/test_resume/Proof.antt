@@ -1,7 +1,4 @@
 -- The first test that refuses, or whether the state fits.
-use mathlib.Core.Path.{sym, ap, _∙_}
-use mathlib.Core.Bool.{Bool}
-use Rattle.replay.specs.Replay.{unless}
 use Rattle.replay.proofs.Entering.{stops, goes-on}
 use borrow.Author.Needs.{needs}
 use Rattle.replay.proofs.tests.test_resume.Statement.{statement}
@@ -23,10 +20,12 @@ refuse-unless-requires : tie.Need-refuse-unless-requires
 refuse-unless-requires c κs = search needs
 
 returns : tie.Need-returns
-returns c = stops _ _ (sym (c .before .before .before .test-launch .ensures) ∙ c .before .launch .given .1)
+returns c = stops (c .before .before .before .test-launch .ensures) _ (c .before .launch .given .1)
 
 returns-2 : tie.Need-returns-2
-returns-2 c = goes-on _ _ (sym (c .before .before .before .before .before .before .before .test-launch .ensures) ∙ c .before .before .before .before .before .enum-told .given .1) (c .refuse-unless .ensures ∙ ap (λ (ok : Bool). unless ok 11) (c .before .fits2 .ensures))
+returns-2 c =
+    let fine = c .before .before .before .before .before in
+    goes-on (fine .before .before .test-launch .ensures) _ (fine .enum-told .given .1) (rw (c .refuse-unless .ensures, c .before .fits2 .ensures))
 
 pub test-resume-spec : {M : Type 1} → statement M
 test-resume-spec =
