@@ -23,8 +23,9 @@ use Rattle.compute.specs.Carrying.{Outcome}
 use Rattle.compute.proofs.Carrying.{control}
 use Rattle.compute.proofs.FaultLanes.{Form, at-device, at-local, dividing, fault-executes, fault-form}
 use Rattle.replay.specs.declared.settings.Settings.{Settings}
-use Rattle.replay.specs.Machine.{Machine, named}
+use Rattle.replay.specs.Machine.{Machine}
 use Rattle.replay.specs.Step.{shapeOf, launchedOf, lanesOf, computed, barrierBy, noFaults, withBarrier, stepOf}
+use Rattle.replay.proofs.Naming.{lent-to}
 
 -- ---- which kinds come together
 
@@ -39,14 +40,16 @@ no-barrier f (at-local odd past d e) = at-work (at-local odd past d (ap (withBar
 no-barrier f (dividing divisor e) = at-work (dividing divisor (ap (withBarrier 0) e))
 
 module _ (s : Settings) (x : Instr) (m : Machine) where
-  by-operation : (c : ControlIn) → controlIn (x .op) ≡ c → Faulty (withBarrier (barrierBy c (launchedOf s) (m .wave)) (computed s x (lanesOf x m) m .faults))
+  by-operation :
+      (c : ControlIn) → controlIn (x .op) ≡ c →
+      Faulty (withBarrier (barrierBy c (launchedOf s) (m .wave)) (computed s x (lanesOf x m) m .faults))
   by-operation (ControlIn.Control o) e =
       at-barrier (faultLanes o (launchedOf s) (m .wave))
       (ap (λ (y : Outcome). withBarrier (faultLanes o (launchedOf s) (m .wave)) (y .faults))
-      (control (shapeOf s) x (lanesOf x m) (record { predicate = named (x .rd) (m .preds); regs = m .regs; memories = m .memories }) o (control-is (x .op) o e)))
+      (control (shapeOf s) x (lanesOf x m) (lent-to x m) o (control-is (x .op) o e)))
   by-operation ControlIn.Other e =
       no-barrier (computed s x (lanesOf x m) m .faults)
-      (fault-form (shapeOf s) x (lanesOf x m) (record { predicate = named (x .rd) (m .preds); regs = m .regs; memories = m .memories }))
+      (fault-form (shapeOf s) x (lanesOf x m) (lent-to x m))
 
   pub step-faulty : Faulty (stepOf s x m .faults)
   unfolding stepOf
@@ -93,7 +96,7 @@ pub step-lanes : (s : Settings) (x : Instr) (m : Machine) → FaultLanes (m .wav
 unfolding stepOf
 step-lanes s x m =
     let t : ℕ = lanesOf x m in
-    let e = fault-executes (shapeOf s) x t (record { predicate = named (x .rd) (m .preds); regs = m .regs; memories = m .memories }) in
+    let e = fault-executes (shapeOf s) x t (lent-to x m) in
     let g : (i : ℕ) → bit t i ≤ bit (m .wave .active) i = executing-within (x .guard) (m .wave .active) (m .preds) in
     let f : Faults = computed s x t m .faults in
     record {

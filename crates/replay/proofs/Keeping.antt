@@ -1,16 +1,14 @@
 -- A run of checked code keeps a fitting wave fitting: the instruction that is carried out is the one that the check saw, its lanes are
 -- active ones, and a predicate gains none but these.
-use mathlib.Core.Path.{_≡_, refl, sym, ap, _∙_, subst}
+use mathlib.Core.Path.{_≡_, refl, sym, ap, _∙_}
 use mathlib.Core.Bool.{Bool, true, false, cond, _||_}
-use mathlib.Core.Logic.{⊎-elim}
 use mathlib.Core.List.{List}
-use Prim.Native.Nat.{ℕ, zero, suc, _^_, _≤_, _<_}
+use Prim.Native.Nat.{ℕ, _^_, _≤_, _<_}
 use native.Mathlib.Omega.{arith}
 use borrow.Author.Tests.{leb-false}
 use lib.Dec.{eqb, leb}
 use lib.ListN.{length}
 use Rattle.ground.proofs.Bools.{never}
-use Rattle.ground.proofs.Tests.{true-or-false}
 use Rattle.lanes.specs.Sets.{bit, first, without}
 use Rattle.lanes.proofs.Members.{joined-le}
 use Rattle.words.specs.declared.instr.Op.{Op}
@@ -40,10 +38,10 @@ use Rattle.compute.proofs.Carrying.{other-bits, length-regs}
 use Rattle.replay.specs.declared.settings.Settings.{Settings}
 use Rattle.replay.specs.Machine.{Machine, named, withNamed}
 use Rattle.replay.specs.Step.{shapeOf, launchedOf, lanesOf, computed, waveAfter, faultsIn, carriedBy, stepOf}
-use Rattle.replay.specs.Run.{endedOf, stepAt, runOf, Ran}
+use Rattle.replay.specs.Run.{endedOf, stepAt, runOf}
 use Rattle.replay.specs.Replay.{mostWords}
-use Rattle.replay.proofs.Naming.{named-fits, with-named-fits}
-use Rattle.replay.proofs.Runs.{at-ended, at-budget, at-fault, at-clear}
+use Rattle.replay.proofs.Naming.{lent-to, named-fits, with-named-fits}
+use Rattle.replay.proofs.Runs.{along}
 
 -- a wave that fits does so with any predicates of launched lanes
 other-preds : (code : List ℕ) (registers n : ℕ) (w : Wave) (ps qs : Preds) → PredsFit (first n) qs → WaveFits code registers n w ps
@@ -66,8 +64,8 @@ module _ (code : List ℕ) (registers : ℕ) (checked : checkOf (codeOf code reg
   fewer = omega arith
 
   -- the instruction that is carried out is the one that the check saw
-  found-instruction : (place : ℕ) (path : List Block) → place < length code → (x : Found) → openAt (codeOf code registers) place ≡ x → OpenThere x path
-      → Instruction code registers place
+  found-instruction : (place : ℕ) (path : List Block) → place < length code → (x : Found) → openAt (codeOf code registers) place ≡ x
+      → OpenThere x path → Instruction code registers place
   found-instruction place path h nowhere e f = absurd f
   found-instruction place path h (there o) e f = instruction-there code registers place checked o e h
 
@@ -110,7 +108,7 @@ module _ (code : List ℕ) (registers : ℕ) (checked : checkOf (codeOf code reg
         omega (
           arith,
           joined-le (computed s x (lanesOf x m) m .after .predicate) (named (x .rd) (m .preds)) (lanesOf x m) i
-              (other-bits (shapeOf s) x (lanesOf x m) (record { predicate = named (x .rd) (m .preds); regs = m .regs; memories = m .memories }) i),
+              (other-bits (shapeOf s) x (lanesOf x m) (lent-to x m) i),
           named-fits (first n) (m .preds) p (x .rd) i,
           executing-within (x .guard) (m .wave .active) (m .preds) i,
           active-launched n (m .wave) (m .preds) (f .sets) i,
@@ -138,22 +136,9 @@ module _ (code : List ℕ) (registers : ℕ) (checked : checkOf (codeOf code reg
 
     -- A RUN keeps it
     pub run-keeps : (b : ℕ) (m : Machine) → MachineFits m → MachineFits (runOf s code b m .end)
-    run-keeps zero m f =
-        ⊎-elim
-        (λ e. subst (λ (r : Ran). MachineFits (r .end)) (sym (at-ended s code 0 m e)) f)
-        (λ e. subst (λ (r : Ran). MachineFits (r .end)) (sym (at-budget s code m e)) f)
-        (true-or-false (endedOf s code m))
-    run-keeps (suc b) m f =
-        ⊎-elim
-        (λ e. subst (λ (r : Ran). MachineFits (r .end)) (sym (at-ended s code (suc b) m e)) f)
-        (λ e.
-        ⊎-elim
-        (λ c.
-        subst (λ (r : Ran). MachineFits (r .end)) (sym (at-clear s code b m e c))
-        (run-keeps b (stepAt s code m .end) (step-keeps m (inside s code m e) f)))
-        (λ c. subst (λ (r : Ran). MachineFits (r .end)) (sym (at-fault s code b m e c)) f)
-        (true-or-false (clear (stepAt s code m .faults))))
-        (true-or-false (endedOf s code m))
+    run-keeps b m f =
+        along s code (λ v r. MachineFits v → MachineFits (r .end)) (λ v e g. g) (λ v e g. g) (λ v e c g. g)
+        (λ v r e h g. h (step-keeps v (inside s code v e) g)) b m f
 
 -- ---- the registers
 module _ (s : Settings) (code : List ℕ) where
@@ -166,20 +151,10 @@ module _ (s : Settings) (code : List ℕ) where
   step-long m =
       let x : Instr = instrAt code (m .wave .place) in
       either-long (clear (faultsIn s x m)) (carriedBy s x (lanesOf x m) m) m
-      (length-regs (shapeOf s) x (lanesOf x m) (record { predicate = named (x .rd) (m .preds); regs = m .regs; memories = m .memories }))
+      (length-regs (shapeOf s) x (lanesOf x m) (lent-to x m))
 
   -- no step adds or loses a register
   pub run-long : (b : ℕ) (m : Machine) → length (runOf s code b m .end .regs) ≡ length (m .regs)
-  run-long zero m =
-      ⊎-elim (λ e. ap (λ (r : Ran). length (r .end .regs)) (at-ended s code 0 m e)) (λ e. ap (λ (r : Ran). length (r .end .regs)) (at-budget s code m e))
-      (true-or-false (endedOf s code m))
-  run-long (suc b) m =
-      ⊎-elim
-      (λ e. ap (λ (r : Ran). length (r .end .regs)) (at-ended s code (suc b) m e))
-      (λ e.
-      ⊎-elim
-      (λ c.
-      ap (λ (r : Ran). length (r .end .regs)) (at-clear s code b m e c) ∙ run-long b (stepAt s code m .end) ∙ step-long m)
-      (λ c. ap (λ (r : Ran). length (r .end .regs)) (at-fault s code b m e c))
-      (true-or-false (clear (stepAt s code m .faults))))
-      (true-or-false (endedOf s code m))
+  run-long b m =
+      along s code (λ v r. length (r .end .regs) ≡ length (v .regs)) (λ v e. refl) (λ v e. refl) (λ v e c. refl)
+      (λ v r e h. h ∙ step-long v) b m

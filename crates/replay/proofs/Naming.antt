@@ -6,11 +6,17 @@ use native.Mathlib.Omega.{arith}
 use lib.Dec.{eqb}
 use Rattle.lanes.specs.Sets.{bit}
 use Rattle.lanes.proofs.Bits.{bit-zero}
+use Rattle.words.specs.declared.instr.Instr.{Instr}
 use Rattle.wave.specs.Wave.{Preds}
 use Rattle.wave.proofs.AtLane.{PredsFit}
-use Rattle.replay.specs.Machine.{named, preds, withNamed}
+use Rattle.compute.specs.Operands.{Lent}
+use Rattle.replay.specs.Machine.{Machine, named, preds, withNamed}
 
--- whether the number is 1, 2 or 3
+-- what an instruction's lanes work on: the predicate that RD names, the registers and the memories
+abbrev pub lent-to : Instr → Machine → Lent
+lent-to x m = record { predicate = named (x .rd) (m .preds); regs = m .regs; memories = m .memories }
+
+-- a, b, c: whether the number is 1, 2, 3
 abbrev chosen : Bool → Bool → Bool → Preds → ℕ
 chosen a b c ps = cond a (ps .p1) (cond b (ps .p2) (cond c (ps .p3) 0))
 

@@ -1,25 +1,34 @@
 -- A call is refused exactly where its tests refuse, with their number and place: a run answers no refusal of its own, by induction along it.
 -- And going on without checks is a resume, where the tests of a resume pass.
-use mathlib.Core.Path.{_≡_, sym, subst, _∙_}
-use mathlib.Core.Logic.{_↔_, ⊎-elim}
+use mathlib.Core.Path.{_≡_, sym, _∙_}
+use mathlib.Core.Logic.{_↔_}
 use mathlib.Core.List.{List}
-use Prim.Native.Nat.{ℕ, zero, suc}
+use Prim.Native.Nat.{ℕ}
 use native.Mathlib.Omega.{arith}
-use Rattle.ground.proofs.Tests.{true-or-false}
 use Rattle.blocks.specs.declared.structure.Checked.{Checked}
 use Rattle.wave.specs.declared.state.State.{State}
-use Rattle.wave.specs.FitsTest.{fitsTest}
 use Rattle.blocks.specs.Code.{codeOf}
 use Rattle.blocks.specs.Scan.{checkOf}
-use Rattle.compute.specs.Faulting.{clear}
 use Rattle.compute.specs.Memory.{Memories}
 use Rattle.replay.specs.declared.settings.Settings.{Settings}
 use Rattle.replay.specs.declared.answers.Outcome.the-variants.{Refused}
 use Rattle.replay.specs.Machine.{Machine}
-use Rattle.replay.specs.Run.{Ran, endedOf, stepAt, runOf}
-use Rattle.replay.specs.Replay.{unless, boundsTest, launchTest, resumeTest, Answered, byTest, runFrom, launchMachine, launchOf, stateMachine, resumeOf, goOnOf}
-use Rattle.replay.proofs.Runs.{at-ended, at-budget, at-fault, at-clear}
-use Rattle.replay.proofs.Returns.{then-first, resumed}
+use Rattle.replay.specs.Run.{Ran, runOf}
+use Rattle.replay.specs.Replay.{
+  boundsTest,
+  launchTest,
+  resumeTest,
+  Answered,
+  byTest,
+  runFrom,
+  launchMachine,
+  launchOf,
+  stateMachine,
+  resumeOf,
+  goOnOf,
+}
+use Rattle.replay.proofs.Runs.{along}
+use Rattle.replay.proofs.Returns.{then-first, resumable, resumed}
 
 -- two cases of an enum are not equal
 other-outcome : _≡_ {A = ℕ} 0 1 → ⊥
@@ -31,33 +40,26 @@ module _ (number place : ℕ) where
   Unrefused r = r .outcome ≡ Refused number place → ⊥
 
   pub run-unrefused : (s : Settings) (code : List ℕ) (b : ℕ) (m : Machine) → Unrefused (runOf s code b m)
-  run-unrefused s code zero m =
-      ⊎-elim (λ e. subst Unrefused (sym (at-ended s code 0 m e)) (λ z. other-outcome cc))
-      (λ e. subst Unrefused (sym (at-budget s code m e)) (λ z. other-outcome cc))
-      (true-or-false (endedOf s code m))
-  run-unrefused s code (suc b) m =
-      ⊎-elim
-      (λ e. subst Unrefused (sym (at-ended s code (suc b) m e)) (λ z. other-outcome cc))
-      (λ e.
-      ⊎-elim (λ c. subst Unrefused (sym (at-clear s code b m e c)) (run-unrefused s code b (stepAt s code m .end)))
-      (λ c. subst Unrefused (sym (at-fault s code b m e c)) (λ z. other-outcome cc))
-      (true-or-false (clear (stepAt s code m .faults))))
-      (true-or-false (endedOf s code m))
+  run-unrefused s code =
+      along s code (λ v r. Unrefused r) (λ v e z. other-outcome cc) (λ v e z. other-outcome cc) (λ v e c z. other-outcome cc) (λ v r e h. h)
 
-  by-test : (v : Checked) (f : Unit {0} → Answered) (state : State) (regs : List ℕ) (y : Memories) → (f tt .outcome ≡ Refused number place → ⊥)
+  by-test : (v : Checked) (f : Unit {0} → Answered) (state : State) (regs : List ℕ) (y : Memories)
+      → (f tt .outcome ≡ Refused number place → ⊥)
       → (byTest v f state regs y .outcome ≡ Refused number place) ↔ (v ≡ Checked.Refused number place)
   by-test Checked.Fine f state regs y never = (λ e. absurd (never e), λ e. absurd (other-outcome cc))
   by-test (Checked.Refused k p) f state regs y never = (λ e. cc, λ e. cc)
 
   -- THEOREM: a call is refused exactly where its tests refuse, with that number and place
   module _ (s : Settings) (code regs device local : List ℕ) where
-    pub launch-refused-if : (launchOf s code regs device local .outcome ≡ Refused number place) ↔ (launchTest s code regs ≡ Checked.Refused number place)
+    pub launch-refused-if :
+        (launchOf s code regs device local .outcome ≡ Refused number place) ↔ (launchTest s code regs ≡ Checked.Refused number place)
     unfolding launchOf
     launch-refused-if =
         by-test (launchTest s code regs) _ _ _ _ (run-unrefused s code (s .budget) (launchMachine s regs device local))
 
     pub resume-refused-if : (state : State)
-        → (resumeOf s state code regs device local .outcome ≡ Refused number place) ↔ (resumeTest s state code regs ≡ Checked.Refused number place)
+        → (resumeOf s state code regs device local .outcome ≡ Refused number place)
+        ↔ (resumeTest s state code regs ≡ Checked.Refused number place)
     unfolding resumeOf
     resume-refused-if state =
         by-test (resumeTest s state code regs) _ _ _ _ (run-unrefused s code (s .budget) (stateMachine state regs device local))
@@ -77,7 +79,6 @@ gone-on s state code regs device local e = rw e
 pub go-on-resumes : (s : Settings) (state : State) (code regs device local : List ℕ) → resumeTest s state code regs ≡ Checked.Fine
     → goOnOf s state code regs device local ≡ resumeOf s state code regs device local
 go-on-resumes s state code regs device local e =
-    let fitting : Checked = unless (fitsTest code (s .registers) (s .lanes) (state .hot) (state .blocks)) 11 in
-    let checked : Checked = checkOf (codeOf code (s .registers)) in
-    gone-on s state code regs device local (then-first (boundsTest s code regs) checked (then-first (launchTest s code regs) fitting e))
+    let tests = resumable s state code regs e .launches in
+    gone-on s state code regs device local (then-first (boundsTest s code regs) (checkOf (codeOf code (s .registers))) tests)
     ∙ sym (resumed s code regs device local state e)

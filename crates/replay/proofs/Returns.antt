@@ -64,15 +64,9 @@ pub then-second : (v next : Checked) → thenTest v next ≡ Fine → next ≡ F
 then-second Checked.Fine next e = e
 then-second (Checked.Refused k p) next e = absurd (let z : _≡_ {A = ℕ} 0 1 = cc in omega arith)
 
-then-both : (v next : Checked) → v ≡ Fine → next ≡ Fine → thenTest v next ≡ Fine
-then-both v next e f = rw (e, f)
-
 pub unless-true : (ok : Bool) (number : ℕ) → unless ok number ≡ Fine → ok ≡ true
 unless-true true number e = refl
 unless-true false number e = absurd (let z : _≡_ {A = ℕ} 0 1 = cc in omega arith)
-
-true-unless : (ok : Bool) (number : ℕ) → ok ≡ true → unless ok number ≡ Fine
-true-unless ok number e = rw e
 
 -- what the tests of a launch ask, the budget's apart
 pub record Launchable (s : Settings) (code : List ℕ) : Type 0 where
@@ -122,6 +116,22 @@ right-length s code regs e =
     (unless-true (eqb (length regs) (s .width * s .registers)) 3
     (then-second (unless (leb (length code) mostWords) 2) last (then-second (unless (settingsRight s) 1) rest t1)))
 
+-- what the tests of a resume ask: those of a launch, and that the state fits
+pub record Resumable (s : Settings) (state : State) (code regs : List ℕ) : Type 0 where
+  pub launches : launchTest s code regs ≡ Fine
+  pub fits : fitsTest code (s .registers) (s .lanes) (state .hot) (state .blocks) ≡ true
+
+pub resumable : (s : Settings) (state : State) (code regs : List ℕ) → resumeTest s state code regs ≡ Fine → Resumable s state code regs
+resumable s state code regs e =
+    let fit : Bool = fitsTest code (s .registers) (s .lanes) (state .hot) (state .blocks) in
+    record {
+      launches = then-first (launchTest s code regs) (unless fit 11) e;
+      fits = unless-true fit 11 (then-second (launchTest s code regs) (unless fit 11) e);
+    }
+
+resumable-passes : (s : Settings) (state : State) (code regs : List ℕ) → Resumable s state code regs → resumeTest s state code regs ≡ Fine
+resumable-passes s state code regs r = rw (r .launches, r .fits)
+
 module _ (s : Settings) (code : List ℕ) (l : Launchable s code) where
   -- the launched lanes are no more than the widest wave has
   pub lanes-most : s .lanes ≤ widest
@@ -136,7 +146,8 @@ module _ (s : Settings) (code : List ℕ) (l : Launchable s code) where
       (or-cases (eqb (s .width) 8 || eqb (s .width) 16) (eqb (s .width) 32) (l .widths))
 
   -- they pass the test with any budget that is allowed and any buffer of the right length
-  pub passes : (b : ℕ) (regs : List ℕ) → b ≤ mostSteps → length regs ≡ s .width * s .registers → launchTest (budgeted b s) code regs ≡ Fine
+  pub passes : (b : ℕ) (regs : List ℕ) → b ≤ mostSteps → length regs ≡ s .width * s .registers
+      → launchTest (budgeted b s) code regs ≡ Fine
   passes b regs h e =
       rw (
         l .widths,
@@ -174,10 +185,10 @@ module _ (s : Settings) (code : List ℕ) (l : Launchable s code) where
       → resumeTest (budgeted c s) (stateOf (m .wave) (m .preds)) code (m .regs) ≡ Fine
   in-order-resumes c m o h =
       let x : State = stateOf (m .wave) (m .preds) in
-      then-both (launchTest (budgeted c s) code (m .regs)) (unless (fitsTest code (s .registers) (s .lanes) (x .hot) (x .blocks)) 11)
-      (passes c (m .regs) h (o .long))
-      (true-unless (fitsTest code (s .registers) (s .lanes) (x .hot) (x .blocks)) 11
-      (fits-test code (s .registers) (s .lanes) (x .hot) (x .blocks) .1 (held-fits m o)))
+      resumable-passes (budgeted c s) x code (m .regs) (record {
+        launches = passes c (m .regs) h (o .long);
+        fits = fits-test code (s .registers) (s .lanes) (x .hot) (x .blocks) .1 (held-fits m o);
+      })
 
   -- and stays so
   run-in-order : (b : ℕ) (m : Machine) → InOrder m → InOrder (runOf s code b m .end)
@@ -208,7 +219,8 @@ module _ (s : Settings) (code regs device local : List ℕ) where
   unfolding resumeOf
   resumed state e = rw e
 
-  not-refused : (v : Checked) (f : Unit {0} → Answered) (state : State) (y : Memories) → byTest v f state regs y .outcome ≡ OutOfBudget → v ≡ Fine
+  not-refused : (v : Checked) (f : Unit {0} → Answered) (state : State) (y : Memories)
+      → byTest v f state regs y .outcome ≡ OutOfBudget → v ≡ Fine
   not-refused Checked.Fine f state y e = refl
   not-refused (Checked.Refused k p) f state y e = absurd (let z : _≡_ {A = ℕ} 0 1 = cc in omega arith)
 
@@ -228,22 +240,21 @@ module _ (s : Settings) (code regs device local : List ℕ) (c : ℕ) (most : c 
   pub launch-returns : launchTest s code regs ≡ Fine → Resumes (launchOf s code regs device local)
   launch-returns e =
       let l = launchable s (s .budget) code regs e in
+      let o = launch-in-order s code l regs device local (right-length s code regs e) in
       subst Resumes (sym (launched s code regs device local e))
-      (goes-on-from s code l (s .budget) c (launchMachine s regs device local) (launch-in-order s code l regs device local (right-length s code regs e)) most)
+      (goes-on-from s code l (s .budget) c (launchMachine s regs device local) o most)
 
   pub resume-returns : (state : State) → resumeTest s state code regs ≡ Fine → Resumes (resumeOf s state code regs device local)
   resume-returns state e =
-      let fitting : Checked = unless (fitsTest code (s .registers) (s .lanes) (state .hot) (state .blocks)) 11 in
-      let first-tests : launchTest s code regs ≡ Fine = then-first (launchTest s code regs) fitting e in
-      let l = launchable s (s .budget) code regs first-tests in
+      let q = resumable s state code regs e in
+      let l = launchable s (s .budget) code regs (q .launches) in
+      let o = given-in-order s code l state regs device local (right-length s code regs (q .launches)) (q .fits) in
       subst Resumes (sym (resumed s code regs device local state e))
-      (goes-on-from s code l (s .budget) c (stateMachine state regs device local)
-      (given-in-order s code l state regs device local (right-length s code regs first-tests)
-      (unless-true (fitsTest code (s .registers) (s .lanes) (state .hot) (state .blocks)) 11 (then-second (launchTest s code regs) fitting e)))
-      most)
+      (goes-on-from s code l (s .budget) c (stateMachine state regs device local) o most)
 
 -- ---- a run does not look at the settings' budget
-pub run-budgeted : (a b : ℕ) (s : Settings) (code : List ℕ) (k : ℕ) (m : Machine) → runOf (budgeted a s) code k m ≡ runOf (budgeted b s) code k m
+pub run-budgeted : (a b : ℕ) (s : Settings) (code : List ℕ) (k : ℕ) (m : Machine)
+    → runOf (budgeted a s) code k m ≡ runOf (budgeted b s) code k m
 unfolding runOf stepOf
 run-budgeted a b s code zero m = refl
 run-budgeted a b s code (suc k) m =
@@ -273,7 +284,8 @@ module _ (s : Settings) (code : List ℕ) (l : Launchable s code) (a b : ℕ) (m
       (state-machine r (path-room code (s .registers) (s .lanes) (r .wave) (r .preds) (run-in-order s code l a m o .fits)))
       ∙ ap (λ (r : Ran). ending (runOf (budgeted b s) code b (r .end))) (sym (run-budgeted a (s .budget) s code a m))
 
-  goes : earlier .outcome ≡ OutOfBudget → runOf (budgeted (a + b) s) code (a + b) m ≡ later (earlier .steps) (runOf (budgeted b s) code b (earlier .end))
+  goes : earlier .outcome ≡ OutOfBudget
+      → runOf (budgeted (a + b) s) code (a + b) m ≡ later (earlier .steps) (runOf (budgeted b s) code b (earlier .end))
   goes e =
       run-budgeted (a + b) a s code (a + b) m ∙ runs-add (budgeted a s) code b a m
       ∙ ap (λ (x : Outcome). following x earlier (later (earlier .steps) (runOf (budgeted a s) code b (earlier .end)))) e
@@ -291,27 +303,24 @@ module _ (s : Settings) (code regs device local : List ℕ) (a b : ℕ) (most : 
       let t = launch-passed (budgeted a s) code regs device local e in
       let l = launchable s a code regs t in
       let long = right-length (budgeted a s) code regs t in
-      let m : Machine = launchMachine s regs device local in
+      let o = launch-in-order s code l regs device local long in
       let x = launched (budgeted a s) code regs device local t in
       launched (budgeted (a + b) s) code regs device local (passes s code l (a + b) regs most long)
-      ∙ run-adds s code l a b most m (launch-in-order s code l regs device local long) (ap (λ (y : Answered). y .outcome) (sym x) ∙ e)
+      ∙ run-adds s code l a b most (launchMachine s regs device local) o (ap (λ (y : Answered). y .outcome) (sym x) ∙ e)
       ∙ ap (λ (y : Answered). added (y .steps) (resumedWith b s code y)) (sym x)
 
   pub resume-adds : (state : State) → resumeOf (budgeted a s) state code regs device local .outcome ≡ OutOfBudget
       → resumeOf (budgeted (a + b) s) state code regs device local
-      ≡ added (resumeOf (budgeted a s) state code regs device local .steps) (resumedWith b s code (resumeOf (budgeted a s) state code regs device local))
+      ≡ added (resumeOf (budgeted a s) state code regs device local .steps)
+      (resumedWith b s code (resumeOf (budgeted a s) state code regs device local))
   resume-adds state e =
       let t = resume-passed (budgeted a s) code regs device local state e in
-      let fitting : Checked = unless (fitsTest code (s .registers) (s .lanes) (state .hot) (state .blocks)) 11 in
-      let first-tests : launchTest (budgeted a s) code regs ≡ Fine = then-first (launchTest (budgeted a s) code regs) fitting t in
-      let fine : fitting ≡ Fine = then-second (launchTest (budgeted a s) code regs) fitting t in
-      let l = launchable s a code regs first-tests in
-      let long = right-length (budgeted a s) code regs first-tests in
-      let m : Machine = stateMachine state regs device local in
+      let q = resumable (budgeted a s) state code regs t in
+      let l = launchable s a code regs (q .launches) in
+      let long = right-length (budgeted a s) code regs (q .launches) in
+      let o = given-in-order s code l state regs device local long (q .fits) in
       let x = resumed (budgeted a s) code regs device local state t in
-      let o = given-in-order s code l state regs device local long
-      (unless-true (fitsTest code (s .registers) (s .lanes) (state .hot) (state .blocks)) 11 fine) in
       resumed (budgeted (a + b) s) code regs device local state
-      (then-both (launchTest (budgeted (a + b) s) code regs) fitting (passes s code l (a + b) regs most long) fine)
-      ∙ run-adds s code l a b most m o (ap (λ (y : Answered). y .outcome) (sym x) ∙ e)
+      (resumable-passes (budgeted (a + b) s) state code regs (record { launches = passes s code l (a + b) regs most long; fits = q .fits }))
+      ∙ run-adds s code l a b most (stateMachine state regs device local) o (ap (λ (y : Answered). y .outcome) (sym x) ∙ e)
       ∙ ap (λ (y : Answered). added (y .steps) (resumedWith b s code y)) (sym x)

@@ -1,11 +1,13 @@
 -- What the loop of a run keeps, how each way out gives the run, and how runs follow one another.
 use Prim.Native.Nat.{ℕ, zero, suc, _+_, _-_, _≤_, _<_}
-use mathlib.Core.Path.{_≡_, refl, ap, sym, _∙_}
+use mathlib.Core.Path.{_≡_, refl, ap, sym, _∙_, subst}
 use mathlib.Core.Bool.{true, false}
+use mathlib.Core.Logic.{⊎-elim}
 use mathlib.Core.List.{List}
 use native.Mathlib.Omega.{arith}
 use native.Mathlib.Nat.{zero-add, add-zero, add-assoc}
 use lib.ListN.{length}
+use Rattle.ground.proofs.Tests.{true-or-false}
 use Rattle.compute.specs.Faulting.{clear}
 use Rattle.words.specs.declared.instr.Instr.{Instr}
 use Rattle.words.specs.Fetching.{instrAt}
@@ -60,6 +62,27 @@ module _ (s : Settings) (code : List ℕ) where
       (b : ℕ) (m : Machine) → endedOf s code m ≡ false → clear (stepAt s code m .faults) ≡ true →
       runOf s code (suc b) m ≡ later 1 (runOf s code b (stepAt s code m .end))
   at-clear b m e f = at-step b m e ∙ rw f
+
+-- ---- what holds wherever a run can stop, and a step before what it holds of, holds of every run
+module _ (s : Settings) (code : List ℕ) (P : Machine → Ran → Type 0)
+    (ended : (m : Machine) → endedOf s code m ≡ true → P m (stop Ended m))
+    (spent : (m : Machine) → endedOf s code m ≡ false → P m (stop OutOfBudget m))
+    (faulted :
+    (m : Machine) → endedOf s code m ≡ false → clear (stepAt s code m .faults) ≡ false → P m (stop (Fault (stepAt s code m .faults)) m))
+    (stepped : (m : Machine) (r : Ran) → endedOf s code m ≡ false → P (stepAt s code m .end) r → P m (later 1 r)) where
+  pub along : (b : ℕ) (m : Machine) → P m (runOf s code b m)
+  along zero m =
+      ⊎-elim (λ e. subst (P m) (sym (at-ended s code 0 m e)) (ended m e)) (λ e. subst (P m) (sym (at-budget s code m e)) (spent m e))
+      (true-or-false (endedOf s code m))
+  along (suc b) m =
+      ⊎-elim
+      (λ e. subst (P m) (sym (at-ended s code (suc b) m e)) (ended m e))
+      (λ e.
+      ⊎-elim
+      (λ c. subst (P m) (sym (at-clear s code b m e c)) (stepped m (runOf s code b (stepAt s code m .end)) e (along b (stepAt s code m .end))))
+      (λ c. subst (P m) (sym (at-fault s code b m e c)) (faulted m e c))
+      (true-or-false (clear (stepAt s code m .faults))))
+      (true-or-false (endedOf s code m))
 
 -- the buffers of a machine are as long as another's
 pub record SameLengths (m m₀ : Machine) : Type 0 where

@@ -179,8 +179,9 @@ module _ (s : Settings) (x : Instr) (o : ControlOp) (h : Hot) (path path′ regs
 
 -- a control instruction goes by its rule
 pub step-control :
-    {x : Instr} {h : Hot} {t : ℕ} {kind : ControlIn} {o : ControlOp} {all : ℕ} {r : Stepped} {f : Faults} {path′ regs device local : List ℕ} →
-    Looked x h t kind → kind ≡ ControlIn.Control o → (s : Settings) (path : List ℕ) → all ≡ launchedOf s → length path ≡ pathNumbers →
+    {x : Instr} {h : Hot} {t all : ℕ} {kind : ControlIn} {o : ControlOp} {r : Stepped} {f : Faults} {path′ regs device local : List ℕ} →
+    Looked x h t kind → kind ≡ ControlIn.Control o → (s : Settings) (path : List ℕ) →
+    all ≡ launchedOf s → length path ≡ pathNumbers →
     ruled.given r path′ ≡ controlOf o all t h path → f ≡ withBarrier (r .barrier) noFaults →
     given f (machineOf (r .hot) path′ regs device local) ≡ stepOf s x (machineOf h path regs device local)
 step-control {x = x} {h = h} {o = o} {r = r} l control s path launched long e alone =

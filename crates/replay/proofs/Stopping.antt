@@ -1,18 +1,16 @@
 -- A run that answers a fault has stopped before the instruction that faults: by induction along the run.
-use mathlib.Core.Path.{_≡_, sym, ap, _∙_, subst}
+use mathlib.Core.Path.{_≡_, sym, ap, _∙_}
 use mathlib.Core.Bool.{false}
-use mathlib.Core.Logic.{⊎-elim}
 use mathlib.Core.List.{List}
-use Prim.Native.Nat.{ℕ, zero, suc}
+use Prim.Native.Nat.{ℕ}
 use native.Mathlib.Omega.{arith}
-use Rattle.ground.proofs.Tests.{true-or-false}
 use Rattle.compute.specs.declared.Faults.{Faults}
 use Rattle.compute.specs.Faulting.{clear}
 use Rattle.replay.specs.declared.settings.Settings.{Settings}
 use Rattle.replay.specs.declared.answers.Outcome.the-variants.{Ended, OutOfBudget, Fault}
 use Rattle.replay.specs.Machine.{Machine}
 use Rattle.replay.specs.Run.{Ran, endedOf, stepAt, runOf}
-use Rattle.replay.proofs.Runs.{at-ended, at-budget, at-fault, at-clear}
+use Rattle.replay.proofs.Runs.{along}
 
 pub same-faults : (f g : Faults) → Fault f ≡ Fault g → f ≡ g
 same-faults f g e = cc
@@ -34,20 +32,9 @@ module _ (s : Settings) (code : List ℕ) (f : Faults) where
   Stops r = r .outcome ≡ Fault f → FaultsAt s code (r .end) f
 
   pub run-stops : (b : ℕ) (m : Machine) → Stops (runOf s code b m)
-  run-stops zero m =
-      ⊎-elim (λ e. subst Stops (sym (at-ended s code 0 m e)) (λ z. absurd (ended-fault f z)))
-      (λ e. subst Stops (sym (at-budget s code m e)) (λ z. absurd (budget-fault f z)))
-      (true-or-false (endedOf s code m))
-  run-stops (suc b) m =
-      ⊎-elim
-      (λ e. subst Stops (sym (at-ended s code (suc b) m e)) (λ z. absurd (ended-fault f z)))
-      (λ e.
-      ⊎-elim
-      (λ c. subst Stops (sym (at-clear s code b m e c)) (run-stops b (stepAt s code m .end)))
-      (λ c.
-      subst Stops (sym (at-fault s code b m e c))
-      (λ z.
+  run-stops =
+      along s code (λ m r. Stops r) (λ m e z. absurd (ended-fault f z)) (λ m e z. absurd (budget-fault f z))
+      (λ m e c z.
       let y : f ≡ stepAt s code m .faults = sym (same-faults (stepAt s code m .faults) f z) in
-      record { unended = e; unclear = ap clear y ∙ c; faults = y }))
-      (true-or-false (clear (stepAt s code m .faults))))
-      (true-or-false (endedOf s code m))
+      record { unended = e; unclear = ap clear y ∙ c; faults = y })
+      (λ m r e h. h)

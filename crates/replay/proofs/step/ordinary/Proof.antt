@@ -56,7 +56,8 @@ same-length-3 c = search needs
 returns : tie.Need-returns
 returns c = λ path.
     let clear = c .before .before .before in
-    ordinary-on (worked (clear .before)) path (c .before .before .word-count .ensures) (c .before .onward-by .ensures) (c .with-named .ensures) (clear .if1 .taken)
+    ordinary-on (worked (clear .before)) path (c .before .before .word-count .ensures) (c .before .onward-by .ensures)
+    (c .with-named .ensures) (clear .if1 .taken)
 
 same-length-4 : tie.Need-same-length-4
 same-length-4 c = search needs
