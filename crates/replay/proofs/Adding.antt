@@ -1,17 +1,14 @@
 -- A run of a + b steps is a run of a, and, where that stopped for want of budget, a run of b from where it stopped.
-use Prim.Native.Nat.{ℕ, zero, suc, _+_}
+use Prim.Native.Nat.{ℕ, _+_}
 use mathlib.Core.Path.{_≡_, refl, ap, sym, _∙_}
-use mathlib.Core.Logic.{⊎-elim}
 use mathlib.Core.List.{List}
 use native.Mathlib.Nat.{zero-add, suc-add}
-use Rattle.ground.proofs.Tests.{true-or-false}
-use Rattle.compute.specs.Faulting.{clear}
 use Rattle.replay.specs.declared.settings.Settings.{Settings}
 use Rattle.replay.specs.declared.answers.Outcome.{Outcome}
 use Rattle.replay.specs.declared.answers.Outcome.the-variants.{Ended, OutOfBudget, Fault, Refused}
 use Rattle.replay.specs.Machine.{Machine}
-use Rattle.replay.specs.Run.{Ran, later, endedOf, stepAt, runOf}
-use Rattle.replay.proofs.Runs.{at-budget, at-ended, at-fault, at-clear, later-later, later-zero}
+use Rattle.replay.specs.Run.{Ran, later, runOf}
+use Rattle.replay.proofs.Runs.{at-ended, at-fault, at-clear, later-later, later-zero, run-induction}
 
 -- what a later run makes of an earlier answer: it goes on only where the budget ran out
 abbrev pub following : Outcome → Ran → Ran → Ran
@@ -36,21 +33,9 @@ module _ (s : Settings) (code : List ℕ) (b : ℕ) where
       ∙ following-later (r .outcome) n r (later (r .steps) (runOf s code b (r .end)))
 
   pub runs-add : (a : ℕ) (m : Machine) → runOf s code (a + b) m ≡ goOn (runOf s code a m)
-  runs-add zero m =
-      ap (λ (k : ℕ). runOf s code k m) (zero-add b)
-      ∙ ⊎-elim
-      (λ e. at-ended s code b m e ∙ sym (ap goOn (at-ended s code 0 m e)))
-      (λ e. sym (ap goOn (at-budget s code m e) ∙ later-zero (runOf s code b m)))
-      (true-or-false (endedOf s code m))
-  runs-add (suc a) m =
-      ap (λ (k : ℕ). runOf s code k m) (suc-add a b)
-      ∙ ⊎-elim
-      (λ e. at-ended s code (suc (a + b)) m e ∙ sym (ap goOn (at-ended s code (suc a) m e)))
-      (λ e.
-      ⊎-elim
-      (λ f.
-      at-clear s code (a + b) m e f ∙ ap (later 1) (runs-add a (stepAt s code m .end))
-      ∙ sym (ap goOn (at-clear s code a m e f) ∙ goOn-later 1 (runOf s code a (stepAt s code m .end))))
-      (λ f. at-fault s code (a + b) m e f ∙ sym (ap goOn (at-fault s code a m e f)))
-      (true-or-false (clear (stepAt s code m .faults))))
-      (true-or-false (endedOf s code m))
+  runs-add =
+      run-induction s code (λ a m r. runOf s code (a + b) m ≡ goOn r) (λ a m e. at-ended s code (a + b) m e)
+      (λ m e. ap (λ (k : ℕ). runOf s code k m) (zero-add b) ∙ sym (later-zero (runOf s code b m)))
+      (λ a m e f. ap (λ (k : ℕ). runOf s code k m) (suc-add a b) ∙ at-fault s code (a + b) m e f)
+      (λ a m r e f h.
+      ap (λ (k : ℕ). runOf s code k m) (suc-add a b) ∙ at-clear s code (a + b) m e f ∙ ap (later 1) h ∙ sym (goOn-later 1 r))

@@ -41,7 +41,7 @@ use Rattle.replay.specs.Step.{shapeOf, launchedOf, lanesOf, computed, wa
 use Rattle.replay.specs.Run.{endedOf, stepAt, runOf}
 use Rattle.replay.specs.Replay.{mostWords}
 use Rattle.replay.proofs.Naming.{lent-to, named-fits, with-named-fits}
-use Rattle.replay.proofs.Runs.{along}
+use Rattle.replay.proofs.Runs.{run-induction}
 
 -- a wave that fits does so with any predicates of launched lanes
 other-preds : (code : List ℕ) (registers n : ℕ) (w : Wave) (ps qs : Preds) → PredsFit (first n) qs → WaveFits code registers n w ps
@@ -136,9 +136,9 @@ module _ (code : List ℕ) (registers : ℕ) (checked : checkOf (codeOf code reg
 
     -- A RUN keeps it
     pub run-keeps : (b : ℕ) (m : Machine) → MachineFits m → MachineFits (runOf s code b m .end)
-    run-keeps b m f =
-        along s code (λ v r. MachineFits v → MachineFits (r .end)) (λ v e g. g) (λ v e g. g) (λ v e c g. g)
-        (λ v r e h g. h (step-keeps v (inside s code v e) g)) b m f
+    run-keeps =
+        run-induction s code (λ b m r. MachineFits m → MachineFits (r .end)) (λ b m e f. f) (λ m e f. f) (λ b m e c f. f)
+        (λ b m r e c h f. h (step-keeps m (inside s code m e) f))
 
 -- ---- the registers
 module _ (s : Settings) (code : List ℕ) where
@@ -155,6 +155,6 @@ module _ (s : Settings) (code : List ℕ) where
 
   -- no step adds or loses a register
   pub run-long : (b : ℕ) (m : Machine) → length (runOf s code b m .end .regs) ≡ length (m .regs)
-  run-long b m =
-      along s code (λ v r. length (r .end .regs) ≡ length (v .regs)) (λ v e. refl) (λ v e. refl) (λ v e c. refl)
-      (λ v r e h. h ∙ step-long v) b m
+  run-long =
+      run-induction s code (λ b m r. length (r .end .regs) ≡ length (m .regs)) (λ b m e. refl) (λ m e. refl) (λ b m e c. refl)
+      (λ b m r e c h. h ∙ step-long m)

@@ -27,7 +27,7 @@ use Rattle.replay.specs.Replay.{
   resumeOf,
   goOnOf,
 }
-use Rattle.replay.proofs.Runs.{along}
+use Rattle.replay.proofs.Runs.{run-induction}
 use Rattle.replay.proofs.Returns.{then-first, resumable, resumed}
 
 -- two cases of an enum are not equal
@@ -41,7 +41,8 @@ module _ (number place : ℕ) where
 
   pub run-unrefused : (s : Settings) (code : List ℕ) (b : ℕ) (m : Machine) → Unrefused (runOf s code b m)
   run-unrefused s code =
-      along s code (λ v r. Unrefused r) (λ v e z. other-outcome cc) (λ v e z. other-outcome cc) (λ v e c z. other-outcome cc) (λ v r e h. h)
+      run-induction s code (λ b m r. Unrefused r) (λ b m e z. other-outcome cc) (λ m e z. other-outcome cc) (λ b m e c z. other-outcome cc)
+      (λ b m r e c h. h)
 
   by-test : (v : Checked) (f : Unit {0} → Answered) (state : State) (regs : List ℕ) (y : Memories)
       → (f tt .outcome ≡ Refused number place → ⊥)

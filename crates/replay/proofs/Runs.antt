@@ -63,24 +63,30 @@ module _ (s : Settings) (code : List ℕ) where
       runOf s code (suc b) m ≡ later 1 (runOf s code b (stepAt s code m .end))
   at-clear b m e f = at-step b m e ∙ rw f
 
--- ---- what holds wherever a run can stop, and a step before what it holds of, holds of every run
-module _ (s : Settings) (code : List ℕ) (P : Machine → Ran → Type 0)
-    (ended : (m : Machine) → endedOf s code m ≡ true → P m (stop Ended m))
-    (spent : (m : Machine) → endedOf s code m ≡ false → P m (stop OutOfBudget m))
+-- ---- what holds where a run stops, and of a run once it holds a step later, holds of every run
+module _ (s : Settings) (code : List ℕ) (P : ℕ → Machine → Ran → Type 0)
+    (ended : (b : ℕ) (m : Machine) → endedOf s code m ≡ true → P b m (stop Ended m))
+    (spent : (m : Machine) → endedOf s code m ≡ false → P 0 m (stop OutOfBudget m))
     (faulted :
-    (m : Machine) → endedOf s code m ≡ false → clear (stepAt s code m .faults) ≡ false → P m (stop (Fault (stepAt s code m .faults)) m))
-    (stepped : (m : Machine) (r : Ran) → endedOf s code m ≡ false → P (stepAt s code m .end) r → P m (later 1 r)) where
-  pub along : (b : ℕ) (m : Machine) → P m (runOf s code b m)
-  along zero m =
-      ⊎-elim (λ e. subst (P m) (sym (at-ended s code 0 m e)) (ended m e)) (λ e. subst (P m) (sym (at-budget s code m e)) (spent m e))
-      (true-or-false (endedOf s code m))
-  along (suc b) m =
+    (b : ℕ) (m : Machine) → endedOf s code m ≡ false → clear (stepAt s code m .faults) ≡ false →
+    P (suc b) m (stop (Fault (stepAt s code m .faults)) m))
+    (stepped :
+    (b : ℕ) (m : Machine) (r : Ran) → endedOf s code m ≡ false → clear (stepAt s code m .faults) ≡ true → P b (stepAt s code m .end) r →
+    P (suc b) m (later 1 r)) where
+  pub run-induction : (b : ℕ) (m : Machine) → P b m (runOf s code b m)
+  run-induction zero m =
       ⊎-elim
-      (λ e. subst (P m) (sym (at-ended s code (suc b) m e)) (ended m e))
+      (λ e. subst (P 0 m) (sym (at-ended s code 0 m e)) (ended 0 m e))
+      (λ e. subst (P 0 m) (sym (at-budget s code m e)) (spent m e))
+      (true-or-false (endedOf s code m))
+  run-induction (suc b) m =
+      let next : Machine = stepAt s code m .end in
+      ⊎-elim
+      (λ e. subst (P (suc b) m) (sym (at-ended s code (suc b) m e)) (ended (suc b) m e))
       (λ e.
       ⊎-elim
-      (λ c. subst (P m) (sym (at-clear s code b m e c)) (stepped m (runOf s code b (stepAt s code m .end)) e (along b (stepAt s code m .end))))
-      (λ c. subst (P m) (sym (at-fault s code b m e c)) (faulted m e c))
+      (λ c. subst (P (suc b) m) (sym (at-clear s code b m e c)) (stepped b m (runOf s code b next) e c (run-induction b next)))
+      (λ c. subst (P (suc b) m) (sym (at-fault s code b m e c)) (faulted b m e c))
       (true-or-false (clear (stepAt s code m .faults))))
       (true-or-false (endedOf s code m))
 

@@ -10,7 +10,7 @@ use Rattle.replay.specs.declared.settings.Settings.{Settings}
 use Rattle.replay.specs.declared.answers.Outcome.the-variants.{Ended, OutOfBudget, Fault}
 use Rattle.replay.specs.Machine.{Machine}
 use Rattle.replay.specs.Run.{Ran, endedOf, stepAt, runOf}
-use Rattle.replay.proofs.Runs.{along}
+use Rattle.replay.proofs.Runs.{run-induction}
 
 pub same-faults : (f g : Faults) → Fault f ≡ Fault g → f ≡ g
 same-faults f g e = cc
@@ -33,8 +33,8 @@ module _ (s : Settings) (code : List ℕ) (f : Faults) where
 
   pub run-stops : (b : ℕ) (m : Machine) → Stops (runOf s code b m)
   run-stops =
-      along s code (λ m r. Stops r) (λ m e z. absurd (ended-fault f z)) (λ m e z. absurd (budget-fault f z))
-      (λ m e c z.
+      run-induction s code (λ b m r. Stops r) (λ b m e z. absurd (ended-fault f z)) (λ m e z. absurd (budget-fault f z))
+      (λ b m e c z.
       let y : f ≡ stepAt s code m .faults = sym (same-faults (stepAt s code m .faults) f z) in
       record { unended = e; unclear = ap clear y ∙ c; faults = y })
-      (λ m r e h. h)
+      (λ b m r e c h. h)
