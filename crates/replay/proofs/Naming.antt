@@ -1,4 +1,5 @@
--- The predicate that a number names: given what it has, nothing changes; given launched lanes only, the predicates still fit.
+-- What an instruction's lanes work on. The predicate that a number names: given what it has, nothing changes; given lanes of a set that
+-- holds all predicates, that set still does.
 use mathlib.Core.Path.{_≡_, refl}
 use mathlib.Core.Bool.{Bool, true, false, cond}
 use Prim.Native.Nat.{ℕ, _≤_}

@@ -1,4 +1,4 @@
--- What the loop of a run keeps, how each way out gives the run, and how runs follow one another.
+-- A run at each kind of machine, and the induction along it; what the loop of the code keeps, and how each way out of it gives the run.
 use Prim.Native.Nat.{ℕ, zero, suc, _+_, _-_, _≤_, _<_}
 use mathlib.Core.Path.{_≡_, refl, ap, sym, _∙_, subst}
 use mathlib.Core.Bool.{true, false}
