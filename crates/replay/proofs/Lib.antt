@@ -1,4 +1,5 @@
 pub mod Runs
+pub mod Turns
 pub mod Adding
 pub mod Keeping
 pub mod Stopping

@@ -6,7 +6,7 @@ use borrow.Author.Needs.{needs}
 use borrow.Author.Tests.{not-true, not-false}
 use Rattle.replay.specs.Machine.{Machine, machineOf}
 use Rattle.replay.specs.Step.{Stepped, stepped}
-use Rattle.replay.proofs.Runs.{Going, Turn, start, ends, spends, below, still-long, faults, goes}
+use Rattle.replay.proofs.Turns.{Going, Turn, start, ends, spends, below, still-long, faults, goes}
 use Rattle.replay.proofs.run.go.Statement.{statement}
 use Rattle.replay.proofs.run.go.Tie as tie
 
