@@ -25,12 +25,13 @@ use Rattle.dayfile.proofs.Records.{file-room, record-here, length-firsts, count
 use Rattle.dayfile.specs.declared.answer.CountAnswer.{CountAnswer}
 use Rattle.dayfile.specs.declared.answer.CountAnswer.the-variants.{Count, Refused as NotCounted}
 use Rattle.listing.specs.Decimal.{field, Puts}
-use Rattle.listing.specs.Text.{mostBytes, space, comma, newline, textRoom, kindsText, line, lines, distinct, headText, totalText, distinctText, refusedText, longText, totalLine, tableText, textOf}
+use Rattle.listing.specs.Text.{mostBytes, textRoom, space, comma, newline, kindsText, line, lines, distinct, totalLine, tableText, textOf}
+use Rattle.listing.specs.Text.{headText, totalText, distinctText, refusedText, longText}
 use Rattle.listing.proofs.Places.{field-long}
-use Rattle.listing.proofs.Putting.{puts-kept}
+use Rattle.listing.proofs.Putting.{puts-join, puts-same, puts-kept, puts-near}
 
 -- the kinds of a body
-abbrev pub kindsOf : List ℕ → List ℕ
+abbrev kindsOf : List ℕ → List ℕ
 kindsOf b = map (λ (f : Fault). f .kind) (partsAt b .faults)
 
 -- a body has one kind or two
@@ -42,17 +43,25 @@ module _ (b : List ℕ) (c : ℕ) (ec : c ≡ numberAt b 8) where
   unfolding countAt
   count-is = ec
 
-  pub kinds-one : c ≡ 1 → (k : ℕ) → k ≡ numberAt b 12 → field k space ≡ kindsText (kindsOf b)
+  kinds-one : c ≡ 1 → (k : ℕ) → k ≡ numberAt b 12 → field k space ≡ kindsText (kindsOf b)
   unfolding kindsText partsAt each faultAt
   kinds-one h k ek = rw (sym count-is ∙ h, ek)
 
-  pub kinds-both : isBody b ≡ true → (c ≡ 1 → ⊥) → (k l : ℕ) → k ≡ numberAt b 12 → l ≡ numberAt b 20 → field k comma ++ field l space ≡ kindsText (kindsOf b)
+  kinds-both : isBody b ≡ true → (c ≡ 1 → ⊥) → (k l : ℕ) → k ≡ numberAt b 12 → l ≡ numberAt b 20
+      → field k comma ++ field l space ≡ kindsText (kindsOf b)
   unfolding kindsText partsAt each faultAt
   kinds-both e h k l ek el =
       let t = kinds-two b e in
       let n = count-is in
       let z : countAt b ≡ 2 = omega arith in
       rw (z, ek, el)
+
+  pub one-puts : {o o1 : List ℕ} {at r k : ℕ} → c ≡ 1 → k ≡ numberAt b 12 → Puts o at (field k space) r o1 → Puts o at (kindsText (kindsOf b)) r o1
+  one-puts {k = k} h ek = puts-same (kinds-one h k ek)
+
+  pub both-puts : {o o1 o2 : List ℕ} {at q r k l : ℕ} → isBody b ≡ true → (c ≡ 1 → ⊥) → k ≡ numberAt b 12 → l ≡ numberAt b 20
+      → Puts o at (field k comma) q o1 → Puts o1 q (field l space) r o2 → Puts o at (kindsText (kindsOf b)) r o2
+  both-puts {k = k} {l = l} e h ek el one two = puts-same (kinds-both e h k l ek el) (puts-join one two)
 
 depth-is : (b : List ℕ) (c d : ℕ) → c ≡ numberAt b 8 → d ≡ numberAt b (20 + 8 * c) → d ≡ length (partsAt b .blocks)
 unfolding depthAt countAt
@@ -66,15 +75,18 @@ place-is : (b : List ℕ) (k : ℕ) → k ≡ numberAt b 4 → k ≡ partsAt b .
 unfolding partsAt
 place-is b k e = e
 
-regroup-four : (a b c d e f : List ℕ) → (((a ++ b) ++ (c ++ d)) ++ e) ++ f ≡ a ++ (b ++ (c ++ (d ++ (e ++ f))))
-regroup-four a b c d e f = simp append-assoc
+regroup : (a b c d e : List ℕ) → (a ++ b) ++ ((c ++ d) ++ e) ≡ a ++ (b ++ (c ++ (d ++ e)))
+regroup a b c d e = simp append-assoc
 
-pub line-is : (b : List ℕ) (i first kernel place c d : ℕ) → kernel ≡ numberAt b 0 → place ≡ numberAt b 4 → c ≡ numberAt b 8 → d ≡ numberAt b (20 + 8 * c)
-    → (((field i space ++ field first space) ++ (field kernel space ++ field place space)) ++ kindsText (kindsOf b)) ++ field d newline ≡ line i first (partsAt b)
+pub line-puts : {o o1 o2 o3 o4 : List ℕ} {at q1 q2 q3 r kernel place c d : ℕ} (i first : ℕ) (b : List ℕ)
+    → kernel ≡ numberAt b 0 → place ≡ numberAt b 4 → c ≡ numberAt b 8 → d ≡ numberAt b (20 + 8 * c)
+    → Puts o at (field i space ++ field first space) q1 o1 → Puts o1 q1 (field kernel space ++ field place space) q2 o2
+    → Puts o2 q2 (kindsText (kindsOf b)) q3 o3 → Puts o3 q3 (field d newline) r o4 → Puts o at (line i first (partsAt b)) r o4
 unfolding line
-line-is b i first kernel place c d ek ep ec ed =
-    regroup-four (field i space) (field first space) (field kernel space) (field place space) (kindsText (kindsOf b)) (field d newline)
-    ∙ rw (kernel-is b kernel ek, place-is b place ep, depth-is b c d ec ed)
+line-puts {kernel = kernel} {place = place} {c = c} {d = d} i first b ek ep ec ed one two kinds last =
+    let rest = kindsText (kindsOf b) ++ field d newline in
+    let e = regroup (field i space) (field first space) (field kernel space) (field place space) rest in
+    puts-same (e ∙ rw (kernel-is b kernel ek, place-is b place ep, depth-is b c d ec ed)) (puts-join one (puts-join two (puts-join kinds last)))
 
 -- ---- how long the text is
 
@@ -88,11 +100,7 @@ kinds-long (k ∷ l ∷ ks) =
     let a = length-append (field k comma) (kindsText (l ∷ ks)) in
     omega arith
 
--- two fields, and the kinds of a body
-pub two-long : (m n : ℕ) → length (field m space ++ field n space) ≤ 42
-two-long m n = let a = length-append (field m space) (field n space) in let b = field-long m space in let c = field-long n space in omega arith
-
-pub kinds-short : (b : List ℕ) → isBody b ≡ true → length (kindsText (kindsOf b)) ≤ 42
+kinds-short : (b : List ℕ) → isBody b ≡ true → length (kindsText (kindsOf b)) ≤ 42
 kinds-short b e =
     let n = kinds-two b e in
     let c = count-eq b in
@@ -100,7 +108,10 @@ kinds-short b e =
     let h = kinds-long (kindsOf b) in
     omega arith
 
-pub line-long : (i first : ℕ) (b : List ℕ) → isBody b ≡ true → length (line i first (partsAt b)) ≤ 147
+pub kinds-near : {o o1 : List ℕ} {at r : ℕ} (b : List ℕ) → isBody b ≡ true → Puts o at (kindsText (kindsOf b)) r o1 → r ≤ at + 42
+kinds-near b e = puts-near 42 (kinds-short b e)
+
+line-long : (i first : ℕ) (b : List ℕ) → isBody b ≡ true → length (line i first (partsAt b)) ≤ 147
 unfolding line
 line-long i first b e =
     let p = partsAt b in
@@ -119,7 +130,7 @@ line-long i first b e =
     let a1 = length-append (field i space) (field first space ++ (field (p .kernel) space ++ (field (p .place) space ++ (K ++ D)))) in
     omega arith
 
-pub lines-long : (i : ℕ) (fs : List ℕ) (bs : List (List ℕ)) → allOf isBody bs ≡ true → length (lines i fs bs) ≤ 147 * length fs
+lines-long : (i : ℕ) (fs : List ℕ) (bs : List (List ℕ)) → allOf isBody bs ≡ true → length (lines i fs bs) ≤ 147 * length fs
 unfolding lines
 lines-long i [] bs e = omega arith
 lines-long i (f ∷ fs) [] e = omega arith
@@ -143,14 +154,14 @@ pub lining-start : (o : List ℕ) (at : ℕ) (fs : List ℕ) (bs : List (List �
 lining-start o at fs bs = record { place = refl; holds = refl; near = omega arith; within = omega arith; long = refl }
 
 lines-step : (fs : List ℕ) (bs : List (List ℕ)) (k i : ℕ) → k < length fs → k < length bs
-    → lines i (drop k fs) (drop k bs) ≡ line i (getD fs k 0) (partsAt (getD bs k [])) ++ lines (i + 1) (drop (k + 1) fs) (drop (k + 1) bs)
+    → lines i (drop k fs) (drop k bs)
+    ≡ line i (getD fs k 0) (partsAt (getD bs k [])) ++ lines (i + 1) (drop (k + 1) fs) (drop (k + 1) bs)
 unfolding lines
 lines-step fs bs k i h g = rw (drop-cons fs k 0 h, drop-cons bs k [] g, add-one k)
 
-pub lining-turn : (o : List ℕ) (at : ℕ) (fs : List ℕ) (bs : List (List ℕ)) (out : List ℕ) (q k : ℕ) → Lining o at fs bs out q k → k < length fs → k < length bs
-    → (out2 : List ℕ) (r f : ℕ) (b : List ℕ) → isBody b ≡ true → f ≡ getD fs k 0 → b ≡ getD bs k [] → Puts out q (line (k + 1) f (partsAt b)) r out2
-    → Lining o at fs bs out2 r (k + 1)
-lining-turn o at fs bs out q k g h hb out2 r f b e ef eb p =
+pub lining-turn : {o fs out out2 b : List ℕ} {bs : List (List ℕ)} {at q k r f : ℕ} → Lining o at fs bs out q k → k < length fs → k < length bs
+    → isBody b ≡ true → f ≡ getD fs k 0 → b ≡ getD bs k [] → Puts out q (line (k + 1) f (partsAt b)) r out2 → Lining o at fs bs out2 r (k + 1)
+lining-turn {fs = fs} {out = out} {b = b} {bs = bs} {q = q} {k = k} {f = f} g h hb e ef eb p =
     let L = line (k + 1) f (partsAt b) in
     let R = lines (k + 1 + 1) (drop (k + 1) fs) (drop (k + 1) bs) in
     let st : lines (k + 1) (drop k fs) (drop k bs) ≡ L ++ R = lines-step fs bs k (k + 1) h hb ∙ rw (ef, eb) in
@@ -168,10 +179,9 @@ lining-turn o at fs bs out q k g h hb out2 r f b e ef eb p =
       long = puts-kept p ∙ g .long;
     }
 
-pub lining-end : (o : List ℕ) (at : ℕ) (fs : List ℕ) (bs : List (List ℕ)) (out : List ℕ) (q k : ℕ) → Lining o at fs bs out q k → length fs ≤ k
-    → Puts o at (lines 1 fs bs) q out
+pub lining-end : {o fs out : List ℕ} {bs : List (List ℕ)} {at q k : ℕ} → Lining o at fs bs out q k → length fs ≤ k → Puts o at (lines 1 fs bs) q out
 unfolding lines
-lining-end o at fs bs out q k g h =
+lining-end {o} {fs} {out} {bs} {at} {q} {k} g h =
     let d : drop k fs ≡ [] = drop-of-length-le fs {i = k} h in
     let gp : q + length (lines (k + 1) [] (drop k bs)) ≡ at + length (lines 1 fs bs) = rw d at (g .place) in
     let gh : placed out q (lines (k + 1) [] (drop k bs)) ≡ placed o at (lines 1 fs bs) = rw d at (g .holds) in
@@ -179,16 +189,21 @@ lining-end o at fs bs out q k g h =
 
 -- ---- turns of the loop that counts
 
-distinct-step : (fs : List ℕ) (k i : ℕ) → k < length fs → distinct i (drop k fs) ≡ cond (eqb (getD fs k 0) i) 1 0 + distinct (i + 1) (drop (k + 1) fs)
+distinct-step : (fs : List ℕ) (k i : ℕ) → k < length fs
+    → distinct i (drop k fs) ≡ cond (eqb (getD fs k 0) i) 1 0 + distinct (i + 1) (drop (k + 1) fs)
 unfolding distinct
 distinct-step fs k i h = rw (drop-cons fs k 0 h, add-one k)
 
 module _ (fs : List ℕ) (k d : ℕ) (e : d + distinct (k + 1) (drop k fs) ≡ distinct 1 fs) where
   pub distinct-first : k < length fs → getD fs k 0 ≡ k + 1 → d + 1 + distinct (k + 1 + 1) (drop (k + 1) fs) ≡ distinct 1 fs
-  distinct-first h f = let s : distinct (k + 1) (drop k fs) ≡ 1 + distinct (k + 1 + 1) (drop (k + 1) fs) = distinct-step fs k (k + 1) h ∙ simp (eq-eqb (getD fs k 0) (k + 1) f) in omega arith
+  distinct-first h f =
+      let t : eqb (getD fs k 0) (k + 1) ≡ true = eq-eqb (getD fs k 0) (k + 1) f in
+      omega (arith, simp t at (distinct-step fs k (k + 1) h))
 
   pub distinct-later : k < length fs → (getD fs k 0 ≡ k + 1 → ⊥) → d + distinct (k + 1 + 1) (drop (k + 1) fs) ≡ distinct 1 fs
-  distinct-later h f = let s : distinct (k + 1) (drop k fs) ≡ 0 + distinct (k + 1 + 1) (drop (k + 1) fs) = distinct-step fs k (k + 1) h ∙ simp (ne-eqb (getD fs k 0) (k + 1) f) in omega arith
+  distinct-later h f =
+      let t : eqb (getD fs k 0) (k + 1) ≡ false = ne-eqb (getD fs k 0) (k + 1) f in
+      omega (arith, simp t at (distinct-step fs k (k + 1) h))
 
   pub distinct-end : length fs ≤ k → d ≡ distinct 1 fs
   unfolding distinct
@@ -199,13 +214,15 @@ module _ (fs : List ℕ) (k d : ℕ) (e : d + distinct (k + 1) (drop k fs) ≡ d
 
 -- ---- the whole table
 
-pub total-is : (n d : ℕ) → ((totalText ++ field n space) ++ distinctText) ++ field d newline ≡ totalLine n d
+pub total-puts : {o o1 o2 o3 o4 : List ℕ} {at q1 q2 q3 r : ℕ} (n d : ℕ) → Puts o at totalText q1 o1 → Puts o1 q1 (field n space) q2 o2
+    → Puts o2 q2 distinctText q3 o3 → Puts o3 q3 (field d newline) r o4 → Puts o at (totalLine n d) r o4
 unfolding totalLine
-total-is n d = append-assoc (totalText ++ field n space) distinctText (field d newline) ∙ append-assoc totalText (field n space) (distinctText ++ field d newline)
+total-puts n d a b c e = puts-join a (puts-join b (puts-join c e))
 
-pub table-is : (fs : List ℕ) (bs : List (List ℕ)) (n d : ℕ) → n ≡ length fs → d ≡ distinct 1 fs → (headText ++ lines 1 fs bs) ++ totalLine n d ≡ tableText fs bs
+pub table-puts : {o o1 o2 o3 : List ℕ} {at q1 q2 r d : ℕ} (fs : List ℕ) (bs : List (List ℕ)) → d ≡ distinct 1 fs → Puts o at headText q1 o1
+    → Puts o1 q1 (lines 1 fs bs) q2 o2 → Puts o2 q2 (totalLine (length fs) d) r o3 → Puts o at (tableText fs bs) r o3
 unfolding tableText
-table-is fs bs n d en ed = append-assoc headText (lines 1 fs bs) (totalLine n d) ∙ rw (en, ed)
+table-puts fs bs e a b c = puts-join a (puts-join b (puts-same (ap (totalLine (length fs)) e) c))
 
 total-long : (n d : ℕ) → length (totalLine n d) ≤ 57
 unfolding totalLine
@@ -229,28 +246,36 @@ table-long fs bs e h =
 
 -- ---- the records of an accepted file
 
+-- the m bytes from a on, as the code cuts them out, are record k + 1
+pub record Cut (f : List ℕ) (k a m : ℕ) : Type 0 where
+  pub few : k < length (bodiesOf f)
+  pub inside : a + m ≤ length f
+  pub same : take (a + m - a) (drop a f) ≡ getD (bodiesOf f) k []
+  pub whole : isBody (take (a + m - a) (drop a f)) ≡ true
+
 module _ (f fs : List ℕ) (ok : refusalOf f ≡ 0) (e : fs ≡ firstsOf (bodiesOf f)) where
-  pub listed-count : (length fs ≡ countOf f) × (length fs ≤ mostRecords)
-  listed-count =
-      let a = ap length e in
-      let b = length-firsts (bodiesOf f) in
-      let c = count-bodies f in
-      let l = accepted-listed f ok .few in
-      (omega arith, omega arith)
+  listed-count : length fs ≡ countOf f
+  listed-count = ap length e ∙ length-firsts (bodiesOf f) ∙ count-bodies f
 
-  pub listed-lines : length (lines 1 fs (bodiesOf f)) ≤ 147 * length fs
-  listed-lines = lines-long 1 fs (bodiesOf f) (accepted-listed f ok .each)
+  pub listed-few : length fs ≤ mostRecords
+  listed-few = omega (arith, listed-count, count-bodies f, accepted-listed f ok .few)
 
-  -- record k + 1, as the code cuts it out
-  pub listed-body : (k a m : ℕ) → k < length fs → a ≡ placeOf f k → m ≡ lengthOf f k → (take (a + m - a) (drop a f) ≡ getD (bodiesOf f) k []) × (a + m ≤ length f)
-  listed-body k a m h ea em =
+  pub listed-near : {o o1 : List ℕ} {at r : ℕ} → Puts o at (lines 1 fs (bodiesOf f)) r o1 → r ≤ at + 147 * length fs
+  listed-near = puts-near (147 * length fs) (lines-long 1 fs (bodiesOf f) (accepted-listed f ok .each))
+
+  pub listed-cut : {k a m : ℕ} → k < length fs → a ≡ placeOf f k → m ≡ lengthOf f k → Cut f k a m
+  listed-cut {k} {a} {m} h ea em =
       let n = listed-count in
+      let c = count-bodies f in
       let r = record-here f ok k a m (omega arith) ea em in
       let z : a + m - a ≡ m = omega arith in
-      (ap (λ (j : ℕ). take j (drop a f)) z ∙ r .0, r .1)
-
-  pub listed-is-body : (k : ℕ) → k < length fs → isBody (getD (bodiesOf f) k []) ≡ true
-  listed-is-body k h = let n = listed-count in let c = count-bodies f in all-at isBody (bodiesOf f) k [] (accepted-listed f ok .each) (omega arith)
+      let s = ap (λ (j : ℕ). take j (drop a f)) z ∙ r .0 in
+      record {
+        few = omega arith;
+        inside = r .1;
+        same = s;
+        whole = ap isBody s ∙ all-at isBody (bodiesOf f) k [] (accepted-listed f ok .each) (omega arith);
+      }
 
 -- ---- the whole text
 
@@ -277,7 +302,8 @@ text-room f =
     ⊎-elim
     (λ (k : eqb (refusalOf f) 0 ≡ true).
     let ok = eqb-true (refusalOf f) 0 k in
-    simp (h, k) (table-long (firstsOf (bodiesOf f)) (bodiesOf f) (accepted-listed f ok .each) (listed-count f (firstsOf (bodiesOf f)) ok refl .1)))
+    let fs = firstsOf (bodiesOf f) in
+    simp (h, k) (table-long fs (bodiesOf f) (accepted-listed f ok .each) (listed-few f fs ok refl)))
     (λ (k : eqb (refusalOf f) 0 ≡ false).
     let a = length-append refusedText (field (refusalOf f) newline) in
     let b = field-long (refusalOf f) newline in
@@ -287,11 +313,17 @@ text-room f =
 
 -- ---- what `firsts` answered, into a buffer of 1,024 numbers
 
+-- n records were counted, and as many numbers are their first equal ones
+pub record Counted (f : List ℕ) (n : ℕ) (out : List ℕ) : Type 0 where
+  pub accepted : refusalOf f ≡ 0
+  pub within : n ≤ length out
+  pub firsts : take n out ≡ firstsOf (bodiesOf f)
+
 module _ (f o out : List ℕ) (r : CountAnswer) (room : length o ≡ mostRecords) (e : counted r out ≡ firstsIn f o) where
   fits : refusalOf f ≡ 0 → countOf f ≤ length o
   fits h = let n = file-room f h .0 in omega arith
 
-  pub firsts-counted : (n : ℕ) → r ≡ Count n → (refusalOf f ≡ 0) × ((n ≤ length out) × (take n out ≡ firstsOf (bodiesOf f)))
+  pub firsts-counted : (n : ℕ) → r ≡ Count n → Counted f n out
   firsts-counted n h =
       let c = count-says f o out fits n (ap (λ (a : CountAnswer). counted a out) (sym h) ∙ e) in
       let fs = firstsOf (bodiesOf f) in
@@ -299,7 +331,12 @@ module _ (f o out : List ℕ) (r : CountAnswer) (room : length o ≡ mostRecords
       let k = fits (c .0) in
       let en = c .1 in
       let lo = ap length (c .2) ∙ length-placed o 0 fs in
-      (c .0, (omega arith, ap (take n) (c .2 ∙ placed-front o fs (omega arith)) ∙ take-at fs (drop (length fs) o) n (l ∙ sym en)))
+      let p = placed-front o fs (omega arith) in
+      record {
+        accepted = c .0;
+        within = omega arith;
+        firsts = ap (take n) (c .2 ∙ p) ∙ take-at fs (drop (length fs) o) n (l ∙ sym en);
+      }
 
   pub firsts-not : (k p : ℕ) → r ≡ NotCounted k p → (refusalOf f ≡ 0 → ⊥) × (k ≡ refusalOf f)
   firsts-not k p h = refused-count-says f o out fits k p (ap (λ (a : CountAnswer). counted a out) (sym h) ∙ e)

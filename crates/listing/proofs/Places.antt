@@ -13,7 +13,7 @@ use borrow.Author.Tests.{lt-ltb, le-ltb, ltb-true, ltb-false}
 use Rattle.io.specs.Digits.{glyph, digits, Fewest}
 use Rattle.listing.specs.Decimal.{places, mostPlaces, decimal, field}
 
-pub length-digits : (b k n : ℕ) → length (digits b k n) ≡ k
+length-digits : (b k n : ℕ) → length (digits b k n) ≡ k
 length-digits b zero n = refl
 length-digits b (suc k) n = let a = length-append (digits b k (n / b)) (glyph (n % b) ∷ []) in let i = length-digits b k (n / b) in omega arith
 
@@ -51,7 +51,8 @@ fewest-places (suc most) n (suc (suc j)) h1 h2 h3 h4 =
     let s : suc (suc j) - 1 ≡ suc j = omega arith in
     let low : 10 ^ suc j ≤ n = rw s at (h4 (omega arith)) in
     let d : suc j - 1 ≡ j = omega arith in
-    let ih : suc j ≡ places most (n / 10) = fewest-places most (n / 10) (suc j) (omega arith) (omega arith) (omega arith) (λ q. rw d (omega arith)) in
+    let more : 1 < suc j → 10 ^ (suc j - 1) ≤ n / 10 = λ q. rw d (omega arith) in
+    let ih : suc j ≡ places most (n / 10) = fewest-places most (n / 10) (suc j) (omega arith) (omega arith) (omega arith) more in
     simp (le-ltb n 10 (omega arith)) (omega arith)
 
 ten-more : (i d : ℕ) → 10 ^ i ≤ 10 ^ (i + d)

@@ -2,7 +2,7 @@
 use mathlib.Core.Path.{refl, sym}
 use lib.Seq.{length-take-le}
 use Rattle.listing.proofs.Putting.{puts-same}
-use Rattle.listing.proofs.Lines.{text-long, text-table, text-refused, firsts-counted, firsts-not}
+use Rattle.listing.proofs.Lines.{text-long, text-table, text-refused, Counted, firsts-counted, firsts-not}
 use borrow.Author.Needs.{needs}
 use Rattle.listing.proofs.list.Statement.{statement}
 use Rattle.listing.proofs.list.Tie as tie
@@ -28,14 +28,24 @@ firsts-requires c κs = search needs
 enum-known-n : tie.Need-enum-known-n
 enum-known-n c = search needs
 
+-- the records are counted, and their first equal ones are in the array
+records : (z : tie.After-n)
+    → Counted
+    (z .before .before .before .before .before .before .before .before .args .file .now)
+    (z .n .given .0 .0)
+    (z .before .before .before .firsts2 .last .1 .0)
+records z =
+    let y = z .before .before .before .firsts2 in
+    firsts-counted _ _ (y .last .1 .0) _ refl (y .ensures) _ (z .n .given .1)
+
 array-share-prefix-firsts : tie.Need-array-share-prefix-firsts
-array-share-prefix-firsts c = firsts-counted _ _ (c .before .before .before .before .before .firsts2 .last .1 .0) _ refl (c .before .before .before .before .before .firsts2 .ensures) _ (c .before .before .n .given .1) .1 .0
+array-share-prefix-firsts c = records (c .before .before) .within
 
 slice-aggregate-put-table : tie.Need-slice-aggregate-put-table
-slice-aggregate-put-table c = sym (length-take-le _ (c .before .before .before .before .before .before .firsts2 .last .1 .0) (firsts-counted _ _ (c .before .before .before .before .before .before .firsts2 .last .1 .0) _ refl (c .before .before .before .before .before .before .firsts2 .ensures) _ (c .before .before .before .n .given .1) .1 .0))
+slice-aggregate-put-table c = sym (length-take-le _ _ (records (c .before .before .before) .within))
 
 put-table-requires : tie.Need-put-table-requires
-put-table-requires c κs = let k = firsts-counted _ _ (c .before .before .before .before .before .before .firsts2 .last .1 .0) _ refl (c .before .before .before .before .before .before .firsts2 .ensures) _ (c .before .before .before .n .given .1) in (k .0, k .1 .1)
+put-table-requires c κs = let k = records (c .before .before .before) in (k .accepted, k .firsts)
 
 enum-known-number : tie.Need-enum-known-number
 enum-known-number c = search needs
@@ -47,14 +57,21 @@ same-length-2 : tie.Need-same-length-2
 same-length-2 c = search needs
 
 returns-2 : tie.Need-returns-2
-returns-2 c = let k = firsts-counted _ _ (c .before .before .before .before .before .before .before .before .before .firsts2 .last .1 .0) _ refl (c .before .before .before .before .before .before .before .before .before .firsts2 .ensures) _ (c .before .before .before .before .before .before .n .given .1) in puts-same (text-table _ (c .before .before .before .before .before .before .before .before .before .before .before .if1 .left) _ (k .0) (k .1 .1)) (c .before .before .put-table .ensures)
+returns-2 c =
+    let z = c .before .before .before .before .before .before in
+    let k = records z in
+    let short = z .before .before .before .before .before .if1 .left in
+    puts-same (text-table _ short _ (k .accepted) (k .firsts)) (c .before .before .put-table .ensures)
 
 same-length-3 : tie.Need-same-length-3
 same-length-3 c = search needs
 
 returns-3 : tie.Need-returns-3
-returns-3 c = let k = firsts-not _ _ (c .before .before .before .before .before .before .before .before .firsts2 .last .1 .0) _ refl (c .before .before .before .before .before .before .before .before .firsts2 .ensures) _ _ (c .before .before .before .before .before .number .given .1) in
-    puts-same (text-refused _ (c .before .before .before .before .before .before .before .before .before .before .if1 .left) _ (k .0) (k .1)) (c .before .before .put-refusal .ensures)
+returns-3 c =
+    let z = c .before .before .before .before .before in
+    let y = z .before .before .before in
+    let k = firsts-not _ _ (y .firsts2 .last .1 .0) _ refl (y .firsts2 .ensures) _ _ (z .number .given .1) in
+    puts-same (text-refused _ (y .before .before .if1 .left) _ (k .0) (k .1)) (c .before .before .put-refusal .ensures)
 
 pub list-spec : {M : Type 1} → statement M
 list-spec =

@@ -1,7 +1,9 @@
 -- The kit's digits, and then the end, are the field.
+use Prim.Native.Nat.{_≤_}
 use native.Mathlib.Omega.{arith}
+use Rattle.listing.specs.Decimal.{mostPlaces}
 use Rattle.listing.proofs.Places.{fewest-most}
-use Rattle.listing.proofs.Putting.{puts-same, puts-join, field-is}
+use Rattle.listing.proofs.Putting.{field-puts}
 use borrow.Author.Needs.{needs}
 use Rattle.listing.proofs.field.put_field.Statement.{statement}
 use Rattle.listing.proofs.field.put_field.Tie as tie
@@ -15,22 +17,28 @@ array-share-prefix-digits c = search needs
 slice-aggregate-put-text : tie.Need-slice-aggregate-put-text
 slice-aggregate-put-text c = search needs
 
+-- a number of 64 bits has at most 20 digits
+few-digits : (z : tie.After-decimal) → z .decimal .result ≤ mostPlaces
+few-digits z = fewest-most _ _ (z .decimal .ensures .1 .0) (omega arith)
+
 put-text-requires : tie.Need-put-text-requires
-put-text-requires c κs = let k = c .before .before .decimal .ensures .0 in let l = fewest-most _ _ (c .before .before .decimal .ensures .1 .0) (omega arith) in omega arith
+put-text-requires c κs = omega (arith, few-digits (c .before .before))
 
 slice-aggregate-put-text-2 : tie.Need-slice-aggregate-put-text-2
 slice-aggregate-put-text-2 c = search needs
 
 put-text-requires-2 : tie.Need-put-text-requires-2
-put-text-requires-2 c κs = let k = c .before .before .before .before .before .before .before .decimal .ensures .0 in let l = fewest-most _ _ (c .before .before .before .before .before .before .before .decimal .ensures .1 .0) (omega arith) in let p = (c .before .before .before .before .put-text .ensures) .place in omega arith
+put-text-requires-2 c κs = omega (arith, few-digits (c .before .before .before .before .before .before .before))
 
 same-length : tie.Need-same-length
 same-length c = search needs
 
 returns : tie.Need-returns
 returns c =
-    let d = (c .before .before .before .before .before .before .before .before .before .before .decimal .ensures) in
-    puts-same (field-is _ _ _ _ (d .1 .0) (omega arith) (d .1 .1)) (puts-join (c .before .before .before .before .before .before .before .put-text .ensures) (c .before .before .put-text2 .ensures))
+    let last = c .before .before in
+    let text = last .before .before .before .before .before in
+    let d = text .before .before .before .decimal .ensures in
+    field-puts (d .1 .0) (omega arith) (d .1 .1) (text .put-text .ensures) (last .put-text2 .ensures)
 
 pub put-field-spec : {M : Type 1} → statement M
 put-field-spec =

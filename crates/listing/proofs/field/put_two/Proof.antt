@@ -1,8 +1,6 @@
 -- One field behind the other.
 use native.Mathlib.Omega.{arith}
-use Rattle.listing.specs.Text.{space}
-use Rattle.listing.proofs.Places.{field-long}
-use Rattle.listing.proofs.Putting.{puts-join}
+use Rattle.listing.proofs.Putting.{puts-join, field-near}
 use borrow.Author.Needs.{needs}
 use Rattle.listing.proofs.field.put_two.Statement.{statement}
 use Rattle.listing.proofs.field.put_two.Tie as tie
@@ -11,7 +9,7 @@ put-field-requires : tie.Need-put-field-requires
 put-field-requires c κs = search needs
 
 put-field-requires-2 : tie.Need-put-field-requires-2
-put-field-requires-2 c κs = let p = (c .before .before .before .put-field .ensures) .place in let l = field-long (c .before .before .before .before .before .before .args .m) space in omega arith
+put-field-requires-2 c κs = omega (arith, field-near)
 
 same-length : tie.Need-same-length
 same-length c = search needs

@@ -1,9 +1,7 @@
 -- A body has one kind or two, and the fields are theirs.
 use native.Mathlib.Omega.{arith}
-use Rattle.listing.specs.Text.{comma}
-use Rattle.listing.proofs.Places.{field-long}
-use Rattle.listing.proofs.Putting.{puts-same, puts-join}
-use Rattle.listing.proofs.Lines.{kinds-one, kinds-both}
+use Rattle.listing.proofs.Putting.{field-near}
+use Rattle.listing.proofs.Lines.{one-puts, both-puts}
 use borrow.Author.Needs.{needs}
 use Rattle.listing.proofs.table.put_kinds.Statement.{statement}
 use Rattle.listing.proofs.table.put_kinds.Tie as tie
@@ -24,7 +22,9 @@ same-length : tie.Need-same-length
 same-length c = search needs
 
 returns : tie.Need-returns
-returns c = puts-same (kinds-one _ _ (c .before .before .before .before .before .before .get .ensures) (c .before .before .before .before .if1 .taken) _ (c .before .before .before .before .before .get2 .ensures)) (c .before .before .put-field .ensures)
+returns c =
+    let z = c .before .before .before .before in
+    one-puts _ _ (z .before .before .get .ensures) (z .if1 .taken) (z .before .get2 .ensures) (c .before .before .put-field .ensures)
 
 put-field-requires-2 : tie.Need-put-field-requires-2
 put-field-requires-2 c κs = search needs
@@ -36,13 +36,21 @@ cast-put-field : tie.Need-cast-put-field
 cast-put-field c = search needs
 
 put-field-requires-3 : tie.Need-put-field-requires-3
-put-field-requires-3 c κs = let p = (c .before .before .before .before .put-field2 .ensures) .place in let l = field-long (c .before .before .before .before .before .before .before .get2 .result) comma in omega arith
+put-field-requires-3 c κs = omega (arith, field-near)
 
 same-length-2 : tie.Need-same-length-2
 same-length-2 c = search needs
 
 returns-2 : tie.Need-returns-2
-returns-2 c = puts-same (kinds-both _ _ (c .before .before .before .before .before .before .before .before .before .before .before .get .ensures) (c .before .before .before .before .before .before .before .before .before .before .before .before .before .before .pre .0) (c .before .before .before .before .before .before .before .before .before .if1 .left) _ _ (c .before .before .before .before .before .before .before .before .before .before .get2 .ensures) (c .before .before .before .get3 .ensures)) (puts-join (c .before .before .before .before .before .before .before .put-field2 .ensures) (c .before .before .put-field3 .ensures))
+returns-2 c =
+    let last = c .before .before in
+    let one = last .before .before .before .before .before in
+    let test = one .before .before in
+    let first = test .before in
+    let count = first .before in
+    let body = count .before .before .before .pre .0 in
+    both-puts _ _ (count .get .ensures) body (test .if1 .left) (first .get2 .ensures) (last .before .get3 .ensures)
+    (one .put-field2 .ensures) (last .put-field3 .ensures)
 
 pub put-kinds-spec : {M : Type 1} → statement M
 put-kinds-spec =

@@ -1,7 +1,8 @@
 -- The pieces, put one behind another, are the line.
+use Prim.Native.Nat.{_+_, _≤_}
 use native.Mathlib.Omega.{arith}
-use Rattle.listing.proofs.Putting.{puts-same, puts-join}
-use Rattle.listing.proofs.Lines.{line-is, two-long, kinds-short}
+use Rattle.listing.proofs.Putting.{two-near}
+use Rattle.listing.proofs.Lines.{line-puts, kinds-near}
 use borrow.Author.Needs.{needs}
 use Rattle.listing.proofs.table.put_line.Statement.{statement}
 use Rattle.listing.proofs.table.put_line.Tie as tie
@@ -40,33 +41,36 @@ put-two-requires : tie.Need-put-two-requires
 put-two-requires c κs = search needs
 
 put-two-requires-2 : tie.Need-put-two-requires-2
-put-two-requires-2 c κs = let p = (c .before .before .before .put-two .ensures) .place in let l = two-long (c .before .before .before .before .before .before .before .before .before .before .before .args .i) (c .before .before .before .before .before .before .before .before .before .before .before .args .first) in omega arith
+put-two-requires-2 c κs = omega (arith, two-near)
 
 put-kinds-requires : tie.Need-put-kinds-requires
-put-kinds-requires c κs =
-    let p = (c .before .before .before .before .before .before .before .put-two .ensures) .place in
-    let l = two-long (c .before .before .before .before .before .before .before .before .before .before .before .before .before .before .before .args .i) (c .before .before .before .before .before .before .before .before .before .before .before .before .before .before .before .args .first) in
-    let r = (c .before .before .before .put-two2 .ensures) .place in
-    let m = two-long (c .before .before .before .before .before .before .before .before .before .before .before .before .get .result) (c .before .before .before .before .before .before .before .before .before .before .before .get2 .result) in
-    (c .before .before .before .before .before .before .before .before .before .before .before .before .before .before .before .pre .0, omega arith)
+put-kinds-requires c κs = (search needs, omega (arith, two-near))
+
+-- the kinds are no longer than two fields
+kinds-end : (z : tie.After-put-kinds) → z .put-kinds .result ≤ z .before .before .before .before .put-two2 .result + 42
+kinds-end z =
+    let two = z .before .before .before .before in
+    let body = two .before .before .before .before .before .before .before .before .before .before .before .before .pre .0 in
+    kinds-near _ body (z .put-kinds .ensures)
 
 put-field-requires : tie.Need-put-field-requires
-put-field-requires c κs =
-    let p = (c .before .before .before .before .before .before .before .before .before .before .before .put-two .ensures) .place in
-    let l = two-long (c .before .before .before .before .before .before .before .before .before .before .before .before .before .before .before .before .before .before .before .args .i) (c .before .before .before .before .before .before .before .before .before .before .before .before .before .before .before .before .before .before .before .args .first) in
-    let r = (c .before .before .before .before .before .before .before .put-two2 .ensures) .place in
-    let m = two-long (c .before .before .before .before .before .before .before .before .before .before .before .before .before .before .before .before .get .result) (c .before .before .before .before .before .before .before .before .before .before .before .before .before .before .before .get2 .result) in
-    let s = (c .before .before .before .put-kinds .ensures) .place in
-    let k = kinds-short (c .before .before .before .before .before .before .before .before .before .before .before .before .before .before .before .before .before .before .before .args .body .now) (c .before .before .before .before .before .before .before .before .before .before .before .before .before .before .before .before .before .before .before .pre .0) in
-    omega arith
+put-field-requires c κs = omega (arith, two-near, kinds-end (c .before .before .before))
 
 same-length : tie.Need-same-length
 same-length c = search needs
 
 returns : tie.Need-returns
 returns c =
-    puts-same (line-is _ _ _ _ _ _ _ (c .before .before .before .before .before .before .before .before .before .before .before .before .before .before .before .before .before .before .before .get .ensures) (c .before .before .before .before .before .before .before .before .before .before .before .before .before .before .before .before .before .before .get2 .ensures) (c .before .before .before .before .before .before .before .before .before .before .before .before .before .before .before .before .before .get3 .ensures) (c .before .before .before .before .before .before .before .before .before .before .before .before .before .before .before .before .get4 .ensures))
-    (puts-join (puts-join (puts-join (c .before .before .before .before .before .before .before .before .before .before .before .before .before .before .put-two .ensures) (c .before .before .before .before .before .before .before .before .before .before .put-two2 .ensures)) (c .before .before .before .before .before .before .put-kinds .ensures)) (c .before .before .put-field .ensures))
+    let last = c .before .before in
+    let kinds = last .before .before .before .before in
+    let two = kinds .before .before .before .before in
+    let one = two .before .before .before .before in
+    let depth = one .before .before in
+    let count = depth .before in
+    let place = count .before in
+    let kernel = place .before in
+    line-puts _ _ _ (kernel .get .ensures) (place .get2 .ensures) (count .get3 .ensures) (depth .get4 .ensures)
+    (one .put-two .ensures) (two .put-two2 .ensures) (kinds .put-kinds .ensures) (last .put-field .ensures)
 
 pub put-line-spec : {M : Type 1} → statement M
 put-line-spec =

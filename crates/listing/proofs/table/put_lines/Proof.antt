@@ -1,13 +1,12 @@
 -- The invariant: the lines that are left, put where the loop stands, give all.
 use borrow.Author.Needs.{needs}
-use mathlib.Core.Path.{refl, ap, _∙_}
-use Rattle.key.specs.Layout.{isBody}
-use Rattle.dayfile.proofs.Lists.{count-bodies}
-use Prim.Native.Nat.{_-_}
+use mathlib.Core.Path.{refl}
+use Prim.Native.Nat.{_-_, _≤_}
 use native.Mathlib.Omega.{arith}
 use lib.ListN.{length}
+use Rattle.dayfile.specs.Day.{mostRecords}
 use Rattle.dayfile.specs.Read.{bodiesOf}
-use Rattle.listing.proofs.Lines.{listed-count, listed-body, listed-is-body, Lining, lining-start, lining-turn, lining-end}
+use Rattle.listing.proofs.Lines.{Cut, listed-few, listed-cut, Lining, lining-start, lining-turn, lining-end}
 use Rattle.listing.proofs.table.put_lines.Statement.{statement}
 use Rattle.listing.proofs.table.put_lines.Tie as tie
 
@@ -17,14 +16,28 @@ Inv-loop out₀ at file firsts q₀ k₀ out q k = Lining out₀ at firsts (bodi
 abbrev μ-loop : tie.MeasureT-loop
 μ-loop out₀ at file firsts q₀ k₀ out q k = length firsts - k
 
+few : (z : tie.Start Inv-loop μ-loop) → length (z .args .firsts .now) ≤ mostRecords
+few z = listed-few _ _ (z .pre .0) (z .pre .1 .0)
+
+-- the place and the length that the code read are those of the record
+cut : (z : tie.After-get2 Inv-loop μ-loop)
+    → Cut
+    (z .before .before .before .before .before .before .before .args .file .now)
+    (z .before .before .before .loop .k)
+    (z .before .get .result)
+    (z .get2 .result)
+cut z =
+    let start = z .before .before .before .before .before .before .before in
+    listed-cut _ _ (start .pre .0) (start .pre .1 .0) (z .before .before .loop-test .taken) (z .before .get .ensures) (z .get2 .ensures)
+
 loop-holds : tie.Need-loop-holds Inv-loop μ-loop
 loop-holds c = lining-start _ _ _ _
 
 mul-get : tie.Need-mul-get Inv-loop μ-loop
-mul-get c = let n = listed-count _ _ (c .before .before .before .before .before .pre .0) (c .before .before .before .before .before .pre .1 .0) in omega arith
+mul-get c = omega (arith, few (c .before .before .before .before .before))
 
 add-get : tie.Need-add-get Inv-loop μ-loop
-add-get c = let n = listed-count _ _ (c .before .before .before .before .before .pre .0) (c .before .before .before .before .before .pre .1 .0) in omega arith
+add-get c = omega (arith, few (c .before .before .before .before .before))
 
 get-requires : tie.Need-get-requires Inv-loop μ-loop
 get-requires c κs = search needs
@@ -33,10 +46,10 @@ cast-place : tie.Need-cast-place Inv-loop μ-loop
 cast-place c = search needs
 
 mul-get-2 : tie.Need-mul-get-2 Inv-loop μ-loop
-mul-get-2 c = let n = listed-count _ _ (c .before .before .before .before .before .before .pre .0) (c .before .before .before .before .before .before .pre .1 .0) in omega arith
+mul-get-2 c = omega (arith, few (c .before .before .before .before .before .before))
 
 add-get-2 : tie.Need-add-get-2 Inv-loop μ-loop
-add-get-2 c = let n = listed-count _ _ (c .before .before .before .before .before .before .pre .0) (c .before .before .before .before .before .before .pre .1 .0) in omega arith
+add-get-2 c = omega (arith, few (c .before .before .before .before .before .before))
 
 get-requires-2 : tie.Need-get-requires-2 Inv-loop μ-loop
 get-requires-2 c κs = search needs
@@ -63,14 +76,10 @@ part-put-line-start : tie.Need-part-put-line-start Inv-loop μ-loop
 part-put-line-start c = omega arith
 
 part-put-line-end : tie.Need-part-put-line-end Inv-loop μ-loop
-part-put-line-end c = listed-body _ _ (c .before .before .before .before .before .before .before .before .before .pre .0) (c .before .before .before .before .before .before .before .before .before .pre .1 .0) _ _ _ (c .before .before .before .before .loop-test .taken) (c .before .before .before .get .ensures) (c .before .before .get2 .ensures) .1
+part-put-line-end c = cut (c .before .before) .inside
 
 put-line-requires : tie.Need-put-line-requires Inv-loop μ-loop
-put-line-requires c κs =
-    let p = c .before .before .before .before .before .before .before .before .before .before .pre in
-    let t = c .before .before .before .before .before .loop-test .taken in
-    let n = c .before .before .before .before .before .before .loop .inv .near in
-    (ap isBody (listed-body _ _ (c .before .before .before .before .before .before .before .before .before .before .pre .0) (c .before .before .before .before .before .before .before .before .before .before .pre .1 .0) _ _ _ (c .before .before .before .before .before .loop-test .taken) (c .before .before .before .before .get .ensures) (c .before .before .before .get2 .ensures) .0) ∙ listed-is-body _ _ (p .0) (p .1 .0) _ t, omega arith)
+put-line-requires c κs = (cut (c .before .before .before) .whole, omega arith)
 
 add-k : tie.Need-add-k Inv-loop μ-loop
 add-k c = search needs
@@ -80,18 +89,16 @@ loop-less c = search needs
 
 loop-again : tie.Need-loop-again Inv-loop μ-loop
 loop-again c =
-    let p = c .before .before .before .before .before .before .before .before .before .before .before .before .before .pre in
-    let t = c .before .before .before .before .before .before .before .before .loop-test .taken in
-    let n = listed-count _ _ (p .0) (p .1 .0) in
-    let m = count-bodies (c .before .before .before .before .before .before .before .before .before .before .before .before .before .args .file .now) in
-    let b = listed-body _ _ (c .before .before .before .before .before .before .before .before .before .before .before .before .before .pre .0) (c .before .before .before .before .before .before .before .before .before .before .before .before .before .pre .1 .0) _ _ _ (c .before .before .before .before .before .before .before .before .loop-test .taken) (c .before .before .before .before .before .before .before .get .ensures) (c .before .before .before .before .before .before .get2 .ensures) .0 in
-    lining-turn _ _ _ _ _ _ _ (c .before .before .before .before .before .before .before .before .before .loop .inv) t (omega arith) _ _ _ _ (ap isBody b ∙ listed-is-body _ _ (p .0) (p .1 .0) _ t) refl b (c .before .before .put-line .ensures)
+    let z = c .before .before .before .before .before .before in
+    let g = z .before .before .before .loop .inv in
+    let t = z .before .before .loop-test .taken in
+    lining-turn g t (cut z .few) (cut z .whole) refl (cut z .same) (c .before .before .put-line .ensures)
 
 same-length : tie.Need-same-length Inv-loop μ-loop
 same-length c = c .before .loop .inv .long
 
 returns : tie.Need-returns Inv-loop μ-loop
-returns c = lining-end _ _ _ _ _ _ _ (c .before .loop .inv) (c .loop-test .left)
+returns c = lining-end (c .before .loop .inv) (c .loop-test .left)
 
 pub put-lines-spec : {M : Type 1} → statement M
 put-lines-spec =

@@ -1,8 +1,6 @@
 -- Head, lines and total, put one behind another, are the table.
-use mathlib.Core.Path.{refl}
 use native.Mathlib.Omega.{arith}
-use Rattle.listing.proofs.Putting.{puts-same, puts-join}
-use Rattle.listing.proofs.Lines.{listed-count, listed-lines, table-is}
+use Rattle.listing.proofs.Lines.{listed-few, listed-near, table-puts}
 use borrow.Author.Needs.{needs}
 use Rattle.listing.proofs.table.put_table.Statement.{statement}
 use Rattle.listing.proofs.table.put_table.Tie as tie
@@ -19,24 +17,24 @@ put-text-requires c κs = search needs
 put-lines-requires : tie.Need-put-lines-requires
 put-lines-requires c κs =
     let p = c .before .before .before .before .before .before .before .before .before .before .pre in
-    let n = listed-count _ _ (p .0) (p .1) in
-    let q = c .before .before .before .put-text .ensures .place in
-    (p .0, (p .1, omega arith))
+    (p .0, (p .1, omega (arith, listed-few _ _ (p .0) (p .1))))
 
 put-total-requires : tie.Need-put-total-requires
 put-total-requires c κs =
-    let p = c .before .before .before .before .before .before .before .before .before .before .before .before .before .before .pre in
-    let n = listed-count _ _ (p .0) (p .1) in
-    let l = listed-lines _ _ (p .0) (p .1) in
-    let q = c .before .before .before .before .before .before .before .put-text .ensures .place in
-    let r = c .before .before .before .put-lines .ensures .place in
-    omega arith
+    let lines = c .before .before .before in
+    let p = lines .before .before .before .before .before .before .before .before .before .before .before .pre in
+    omega (arith, listed-few _ _ (p .0) (p .1), listed-near _ _ (p .0) (p .1) (lines .put-lines .ensures))
 
 same-length : tie.Need-same-length
 same-length c = search needs
 
 returns : tie.Need-returns
-returns c = puts-same (table-is _ _ _ _ refl (c .before .before .before .before .before .before .before .before .before .before .before .before .before .count-distinct .ensures)) (puts-join (puts-join (c .before .before .before .before .before .before .before .before .before .before .put-text .ensures) (c .before .before .before .before .before .before .put-lines .ensures)) (c .before .before .put-total .ensures))
+returns c =
+    let last = c .before .before in
+    let lines = last .before .before .before .before in
+    let head = lines .before .before .before .before in
+    let count = head .before .before .before in
+    table-puts _ _ (count .count-distinct .ensures) (head .put-text .ensures) (lines .put-lines .ensures) (last .put-total .ensures)
 
 pub put-table-spec : {M : Type 1} → statement M
 put-table-spec =

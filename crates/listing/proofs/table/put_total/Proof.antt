@@ -1,9 +1,7 @@
 -- The pieces, put one behind another, are the last line.
 use native.Mathlib.Omega.{arith}
-use Rattle.listing.specs.Text.{space}
-use Rattle.listing.proofs.Places.{field-long}
-use Rattle.listing.proofs.Putting.{puts-same, puts-join}
-use Rattle.listing.proofs.Lines.{total-is}
+use Rattle.listing.proofs.Putting.{field-near}
+use Rattle.listing.proofs.Lines.{total-puts}
 use borrow.Author.Needs.{needs}
 use Rattle.listing.proofs.table.put_total.Statement.{statement}
 use Rattle.listing.proofs.table.put_total.Tie as tie
@@ -21,21 +19,21 @@ slice-aggregate-put-text-2 : tie.Need-slice-aggregate-put-text-2
 slice-aggregate-put-text-2 c = search needs
 
 put-text-requires-2 : tie.Need-put-text-requires-2
-put-text-requires-2 c κs = let p = c .before .before .before .before .before .before .before .before .put-text .ensures .place in let q = c .before .before .before .before .put-field .ensures .place in let l = field-long (c .before .before .before .before .before .before .before .before .before .before .before .before .args .total) space in omega arith
+put-text-requires-2 c κs = omega (arith, field-near)
 
 put-field-requires-2 : tie.Need-put-field-requires-2
-put-field-requires-2 c κs =
-    let p = c .before .before .before .before .before .before .before .before .before .before .before .before .put-text .ensures .place in
-    let q = c .before .before .before .before .before .before .before .before .put-field .ensures .place in
-    let l = field-long (c .before .before .before .before .before .before .before .before .before .before .before .before .before .before .before .before .args .total) space in
-    let r = c .before .before .before .put-text2 .ensures .place in
-    omega arith
+put-field-requires-2 c κs = omega (arith, field-near)
 
 same-length : tie.Need-same-length
 same-length c = search needs
 
 returns : tie.Need-returns
-returns c = puts-same (total-is _ _) (puts-join (puts-join (puts-join (c .before .before .before .before .before .before .before .before .before .before .before .before .before .before .before .put-text .ensures) (c .before .before .before .before .before .before .before .before .before .before .before .put-field .ensures)) (c .before .before .before .before .before .before .put-text2 .ensures)) (c .before .before .put-field2 .ensures))
+returns c =
+    let last = c .before .before in
+    let third = last .before .before .before .before in
+    let second = third .before .before .before .before .before in
+    let first = second .before .before .before .before in
+    total-puts _ _ (first .put-text .ensures) (second .put-field .ensures) (third .put-text2 .ensures) (last .put-field2 .ensures)
 
 pub put-total-spec : {M : Type 1} → statement M
 put-total-spec =
