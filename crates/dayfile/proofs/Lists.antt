@@ -37,7 +37,8 @@ pub cut-flatten : (bs : List (List ℕ)) → allOf isBody bs ≡ true → cut (l
 unfolding flatten cut
 cut-flatten [] e = refl
 cut-flatten (b ∷ bs) e =
-    rw (body-size b (flatten bs) (all-first b bs e), take-at b (flatten bs) (length b) refl, drop-at b (flatten bs) (length b) refl, cut-flatten bs (all-rest b bs e))
+    let t = flatten bs in
+    rw (body-size b t (all-first b bs e), take-at b t (length b) refl, drop-at b t (length b) refl, cut-flatten bs (all-rest b bs e))
 
 pub length-cut : (n : ℕ) (s : List ℕ) → length (cut n s) ≡ n
 unfolding cut

@@ -35,7 +35,8 @@ survey-list (b ∷ bs) m p n e h =
 pub list-made : (bs : List (List ℕ)) → Listed bs → (out : List ℕ) → makeOf (flatten bs) out ≡ filed (fileOf bs) out
 unfolding makeOf surveyed
 list-made bs h out =
-    let e : survey mostRecords 0 0 (flatten bs) ≡ Good (length bs) = survey-list bs mostRecords 0 0 (h .each) (h .few) ∙ (let z : 0 + length bs ≡ length bs = omega arith in ap Good z) in
+    let z : 0 + length bs ≡ length bs = omega arith in
+    let e : survey mostRecords 0 0 (flatten bs) ≡ Good (length bs) = survey-list bs mostRecords 0 0 (h .each) (h .few) ∙ ap Good z in
     rw (e, cut-flatten bs (h .each))
 
 -- ... and bytes that are refused by neither 14 nor 15 are the bodies of a list

@@ -2,7 +2,7 @@
 use mathlib.Core.Path.{_≡_, refl, sym, ap, _∙_}
 use Prim.Native.Nat.{ℕ, zero, suc, _+_, _*_, _-_, _≤_, _<_}
 use mathlib.Core.List.{List, [], _∷_, _++_, append-assoc, flatten}
-use mathlib.Core.Bool.{true, false, _&&_}
+use mathlib.Core.Bool.{Bool, true, false, _&&_}
 use native.Mathlib.Omega.{arith}
 use lib.Dec.{eqb}
 use lib.ListN.{length, take, drop, length-append, length-drop, take-append-drop}
@@ -34,10 +34,13 @@ unfolding table flatten
 peel f q p b bs R hf hp rows rest =
     let T = table (p + length b) bs in
     let e1 : drop q f ≡ bytesOf p ++ (bytesOf (length b) ++ (T ++ R)) = rows ∙ simp append-assoc in
-    let e2 : drop (q + 4) f ≡ bytesOf (length b) ++ (T ++ R) = sym (drop-drop 4 q f) ∙ ap (drop 4) e1 ∙ drop-at (bytesOf p) (bytesOf (length b) ++ (T ++ R)) 4 (length-bytesOf p) in
+    let d1 = drop-at (bytesOf p) (bytesOf (length b) ++ (T ++ R)) 4 (length-bytesOf p) in
+    let e2 : drop (q + 4) f ≡ bytesOf (length b) ++ (T ++ R) = sym (drop-drop 4 q f) ∙ ap (drop 4) e1 ∙ d1 in
     let k : q + 4 + 4 ≡ q + 8 = omega arith in
-    let e3 : drop (q + 8) f ≡ T ++ R = ap (λ (m : ℕ). drop m f) (sym k) ∙ sym (drop-drop 4 (q + 4) f) ∙ ap (drop 4) e2 ∙ drop-at (bytesOf (length b)) (T ++ R) 4 (length-bytesOf (length b)) in
-    let e4 : drop (p + length b) f ≡ flatten bs = sym (drop-drop (length b) p f) ∙ ap (drop (length b)) rest ∙ drop-at b (flatten bs) (length b) refl in
+    let d2 = drop-at (bytesOf (length b)) (T ++ R) 4 (length-bytesOf (length b)) in
+    let e3 : drop (q + 8) f ≡ T ++ R = ap (λ (m : ℕ). drop m f) (sym k) ∙ sym (drop-drop 4 (q + 4) f) ∙ ap (drop 4) e2 ∙ d2 in
+    let d3 = drop-at b (flatten bs) (length b) refl in
+    let e4 : drop (p + length b) f ≡ flatten bs = sym (drop-drop (length b) p f) ∙ ap (drop (length b)) rest ∙ d3 in
     let l1 : length f - p ≡ length b + length (flatten bs) = sym (length-drop p f) ∙ ap length rest ∙ length-append b (flatten bs) in
     record {
       place = number-here f q p (bytesOf (length b) ++ (T ++ R)) (omega arith) e1;
@@ -104,16 +107,22 @@ module _ (f : List ℕ) (by : Bytes f) where
       let st = starts-append b (flatten bs) (s .0) in
       let z : sizeAt (drop p f) ≡ length b = ap sizeAt rest ∙ body-size b (flatten bs) (all-first b bs e) in
       let w = peel f q p b bs R hf hp rows rest in
-      let ih : walk (length bs) (q + 8) (p + length b) f ≡ true = walks bs (q + 8) (p + length b) R (all-rest b bs e) (w .rows) (w .rest) (w .inside) hf in
-      and-both _ _ (eq-eqb (numberAt f q) p (w .place)) (and-both _ _ (ap startsBody rest ∙ of-starts (b ++ flatten bs) (st .0)) (and-both _ _ (eq-eqb (numberAt f (q + 4)) (sizeAt (drop p f)) (w .long ∙ sym z)) (rw z ih)))
+      let ih : walk (length bs) (q + 8) (p + length b) f ≡ true =
+      walks bs (q + 8) (p + length b) R (all-rest b bs e) (w .rows) (w .rest) (w .inside) hf in
+      let place = eq-eqb (numberAt f q) p (w .place) in
+      let start = ap startsBody rest ∙ of-starts (b ++ flatten bs) (st .0) in
+      let long = eq-eqb (numberAt f (q + 4)) (sizeAt (drop p f)) (w .long ∙ sym z) in
+      and-both _ _ place (and-both _ _ start (and-both _ _ long (rw z ih)))
 
-  parts-file : (n : ℕ) → countOf f ≡ n → tableEnd n ≤ length f → Walked n 4 (tableEnd n) → (allOf isBody (bodiesOf f) ≡ true) × (fileOf (bodiesOf f) ≡ f)
+  parts-file : (n : ℕ) → countOf f ≡ n → tableEnd n ≤ length f → Walked n 4 (tableEnd n)
+      → (allOf isBody (bodiesOf f) ≡ true) × (fileOf (bodiesOf f) ≡ f)
   unfolding bodiesOf fileOf countOf
   parts-file n en h w =
       let bs = cut n (drop (tableEnd n) f) in
       let l : length bs ≡ n = length-cut n (drop (tableEnd n) f) in
       let e0 : f ≡ bytesOf n ++ drop 4 f = rw en at (number-bytes f 0 by (omega arith)) in
-      rw (en, l) (w .each, ap (λ (t : List ℕ). bytesOf n ++ (table (tableEnd n) bs ++ t)) (w .rest) ∙ ap (λ (t : List ℕ). bytesOf n ++ t) (sym (w .rows)) ∙ sym e0)
+      let e1 = ap (λ (t : List ℕ). bytesOf n ++ (table (tableEnd n) bs ++ t)) (w .rest) in
+      rw (en, l) (w .each, e1 ∙ ap (λ (t : List ℕ). bytesOf n ++ t) (sym (w .rows)) ∙ sym e0)
 
   walk-file : tableEnd (countOf f) ≤ length f → walk (countOf f) 4 (tableEnd (countOf f)) f ≡ true → isFile f ≡ true
   unfolding isFile
@@ -132,43 +141,72 @@ module _ (f : List ℕ) (by : Bytes f) where
 
 pub short-file : (f : List ℕ) → countOf f ≤ mostRecords → length f < tableEnd (countOf f) → isFile f ≡ false
 short-file f c h =
-    false-of (isFile f) (λ e. let g = file-given f c e in let p = parted f (g .bodies) (g .listed) (g .file) in let k = p .room in let n = p .count in omega arith)
+    false-of
+    (isFile f)
+    (λ e.
+    let g = file-given f c e in
+    let p = parted f (g .bodies) (g .listed) (g .file) in
+    omega (arith, p .room, p .count))
 
 -- ---- turns of the walk
 
-walk-step : (n q p : ℕ) (f : List ℕ) → 0 < n
-    → walk n q p f ≡ (eqb (numberAt f q) p && (startsBody (drop p f) && (eqb (numberAt f (q + 4)) (sizeAt (drop p f)) && walk (n - 1) (q + 8) (p + sizeAt (drop p f)) f)))
+-- a row and its body are good, and so is w
+abbrev row : List ℕ → ℕ → ℕ → Bool → Bool
+row f q p w = eqb (numberAt f q) p && (startsBody (drop p f) && (eqb (numberAt f (q + 4)) (sizeAt (drop p f)) && w))
+
+walk-step : (n q p : ℕ) (f : List ℕ) → 0 < n → walk n q p f ≡ row f q p (walk (n - 1) (q + 8) (p + sizeAt (drop p f)) f)
 unfolding walk
 walk-step zero q p f h = absurd (omega arith)
 walk-step (suc n) q p f h =
     let e : n ≡ suc n - 1 = omega arith in
-    ap (λ (m : ℕ). eqb (numberAt f q) p && (startsBody (drop p f) && (eqb (numberAt f (q + 4)) (sizeAt (drop p f)) && walk m (q + 8) (p + sizeAt (drop p f)) f))) e
+    ap (λ (m : ℕ). row f q p (walk m (q + 8) (p + sizeAt (drop p f)) f)) e
 
-pub walk-end : (n q p : ℕ) (f : List ℕ) → n ≤ 0 → walk n q p f ≡ eqb p (length f)
+walk-end : (n q p : ℕ) (f : List ℕ) → n ≤ 0 → walk n q p f ≡ eqb p (length f)
 unfolding walk
 walk-end zero q p f h = refl
 walk-end (suc n) q p f h = absurd (omega arith)
 
-module _ (n q p : ℕ) (f : List ℕ) (h : 0 < n) where
-  pub walk-place : (numberAt f q ≡ p → ⊥) → walk n q p f ≡ false
-  walk-place a = walk-step n q p f h ∙ simp (ne-eqb (numberAt f q) p a)
+-- the walk that is left, from where the loop stands, answers for all
+pub record Walking (f : List ℕ) (n q p left : ℕ) : Type 0 where
+  pub rows : q + 8 * left ≤ length f
+  pub inside : p ≤ length f
+  pub all : walk n 4 (tableEnd n) f ≡ walk left q p f
 
-  pub walk-refused : (m r : ℕ) → numberAt f q ≡ p → Refused m r ≡ bodyAnswer f p → walk n q p f ≡ false
-  walk-refused m r a b = walk-step n q p f h ∙ simp (eq-eqb (numberAt f q) p a, refused-says f p m r b)
+pub walking-start : {f : List ℕ} {n : ℕ} → tableEnd n ≤ length f → Walking f n 4 (tableEnd n) n
+walking-start h = record { rows = h; inside = h; all = refl }
 
-  module _ (k : ℕ) (a : numberAt f q ≡ p) (b : Length k ≡ bodyAnswer f p) where
-    pub walk-length : (numberAt f (q + 4) ≡ k → ⊥) → walk n q p f ≡ false
-    walk-length c =
-        let s = length-says f p k b in
-        let d : numberAt f (q + 4) ≡ sizeAt (drop p f) → ⊥ = λ e. c (e ∙ sym (s .1)) in
-        walk-step n q p f h ∙ simp (eq-eqb (numberAt f q) p a, of-starts (drop p f) (s .0), ne-eqb (numberAt f (q + 4)) (sizeAt (drop p f)) d)
+pub walking-end : {f : List ℕ} {n q p left : ℕ} → Walking f n q p left → left ≤ 0 → eqb p (length f) ≡ walk n 4 (tableEnd n) f
+walking-end {f} {n} {q} {p} {left} g h = sym (g .all ∙ walk-end left q p f h)
 
-    pub walk-on : numberAt f (q + 4) ≡ k → walk n q p f ≡ walk (n - 1) (q + 8) (p + k) f
-    walk-on c =
-        let s = length-says f p k b in
-        let d : numberAt f (q + 4) ≡ sizeAt (drop p f) = c ∙ s .1 in
-        let e = s .1 in
-        walk-step n q p f h ∙ simp (eq-eqb (numberAt f q) p a, of-starts (drop p f) (s .0), eq-eqb (numberAt f (q + 4)) (sizeAt (drop p f)) d, e)
+-- x is the place that the row says, and y the length
+module _ {f : List ℕ} {n q p left x : ℕ} (g : Walking f n q p left) (h : 0 < left) (ex : x ≡ numberAt f q) where
+  step : walk n 4 (tableEnd n) f ≡ row f q p (walk (left - 1) (q + 8) (p + sizeAt (drop p f)) f)
+  step = g .all ∙ walk-step left q p f h
 
-    pub walk-room : p ≤ length f → p + k ≤ length f
-    walk-room l = let s = length-says f p k b in let r = s .0 .room in let e = s .1 in let d = length-drop p f in omega arith
+  pub walking-elsewhere : (x ≡ p → ⊥) → false ≡ walk n 4 (tableEnd n) f
+  walking-elsewhere a = sym (step ∙ simp (ne-eqb (numberAt f q) p (λ e. a (ex ∙ e))))
+
+  module _ (a : x ≡ p) where
+    at-place : eqb (numberAt f q) p ≡ true
+    at-place = eq-eqb (numberAt f q) p (sym ex ∙ a)
+
+    pub walking-refused : {m r : ℕ} → Refused m r ≡ bodyAnswer f p → false ≡ walk n 4 (tableEnd n) f
+    walking-refused {m} {r} b = sym (step ∙ simp (at-place, refused-says f p m r b))
+
+    module _ {k y : ℕ} (b : Length k ≡ bodyAnswer f p) (ey : y ≡ numberAt f (q + 4)) where
+      pub walking-unequal : (y ≡ k → ⊥) → false ≡ walk n 4 (tableEnd n) f
+      walking-unequal c =
+          let s = length-says f p k b in
+          let d = ne-eqb (numberAt f (q + 4)) (sizeAt (drop p f)) (λ e. c (ey ∙ e ∙ sym (s .1))) in
+          sym (step ∙ simp (at-place, of-starts (drop p f) (s .0), d))
+
+      pub walking-turn : y ≡ k → Walking f n (q + 8) (p + k) (left - 1)
+      walking-turn c =
+          let s = length-says f p k b in
+          let e = s .1 in
+          let d = eq-eqb (numberAt f (q + 4)) (sizeAt (drop p f)) (sym ey ∙ c ∙ e) in
+          record {
+            rows = omega (arith, g .rows);
+            inside = omega (arith, g .inside, s .0 .room, length-drop p f);
+            all = step ∙ simp (at-place, of-starts (drop p f) (s .0), d, e);
+          }

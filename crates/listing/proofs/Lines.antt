@@ -265,16 +265,14 @@ module _ (f fs : List ℕ) (ok : refusalOf f ≡ 0) (e : fs ≡ firstsOf (bodies
 
   pub listed-cut : {k a m : ℕ} → k < length fs → a ≡ placeOf f k → m ≡ lengthOf f k → Cut f k a m
   listed-cut {k} {a} {m} h ea em =
-      let n = listed-count in
-      let c = count-bodies f in
-      let r = record-here f ok k a m (omega arith) ea em in
+      let r = record-here f ok (omega (arith, listed-count)) ea em in
       let z : a + m - a ≡ m = omega arith in
-      let s = ap (λ (j : ℕ). take j (drop a f)) z ∙ r .0 in
+      let s = ap (λ (j : ℕ). take j (drop a f)) z ∙ r .bytes in
       record {
-        few = omega arith;
-        inside = r .1;
+        few = r .counted;
+        inside = r .inside;
         same = s;
-        whole = ap isBody s ∙ all-at isBody (bodiesOf f) k [] (accepted-listed f ok .each) (omega arith);
+        whole = ap isBody s ∙ all-at isBody (bodiesOf f) k [] (accepted-listed f ok .each) (r .counted);
       }
 
 -- ---- the whole text

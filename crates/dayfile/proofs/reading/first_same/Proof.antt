@@ -1,20 +1,13 @@
 -- The invariant: the first equal record is not among those passed, so it is the first among the rest.
 use borrow.Author.Needs.{needs}
-use mathlib.Core.Path.{_≡_, sym, _∙_}
-use Prim.Native.Nat.{_+_, _-_, _≤_}
+use Prim.Native.Nat.{_-_}
 use native.Mathlib.Omega.{arith}
-use mathlib.Core.List.{[]}
-use lib.ListN.{length, getD, take, drop}
-use Rattle.ground.specs.Tests.{sameList}
-use Rattle.ground.proofs.Tests.{same-refl}
-use Rattle.dayfile.specs.Read.{bodiesOf, firstSame}
-use Rattle.dayfile.proofs.Lists.{count-bodies}
-use Rattle.dayfile.proofs.Records.{file-room, record-here, first-here, first-on}
+use Rattle.dayfile.proofs.Records.{Stands, file-room, record-here, Seeking, seeking-start, seeking-end, seeking-here, seeking-turn}
 use Rattle.dayfile.proofs.reading.first_same.Statement.{statement}
 use Rattle.dayfile.proofs.reading.first_same.Tie as tie
 
 abbrev Inv-loop : tie.InvT-loop
-Inv-loop file i place length k₀ k = (k ≤ i) × (firstSame (getD (bodiesOf file) i []) (bodiesOf file) ≡ k + firstSame (getD (bodiesOf file) i []) (drop k (bodiesOf file)))
+Inv-loop file i place length k₀ k = Seeking file i k
 
 abbrev μ-loop : tie.MeasureT-loop
 μ-loop file i place length k₀ k = i - k
@@ -43,26 +36,18 @@ get-requires-2 c κs = search needs
 cast-length : tie.Need-cast-length Inv-loop μ-loop
 cast-length c = search needs
 
--- where record k + 1 stands
-here : (c : tie.After-get4 Inv-loop μ-loop) → let f = c .before .before .before .before .before .before .before .args .file .now in
-    (take (c .get4 .result) (drop (c .before .get3 .result) f) ≡ getD (bodiesOf f) (c .before .before .before .loop .k) []) × (c .before .get3 .result + c .get4 .result ≤ length f)
-here c =
-    let p = c .before .before .before .before .before .before .before .pre in
-    let t = c .before .before .loop-test .taken in
-    record-here _ (p .0) (c .before .before .before .loop .k) _ _ (omega arith) (c .before .get3 .ensures) (c .get4 .ensures)
-
 -- where record i + 1 stands
-whole : (c : tie.After-get4 Inv-loop μ-loop) → let f = c .before .before .before .before .before .before .before .args .file .now in
-    (take (c .before .before .before .before .get2 .result) (drop (c .before .before .before .before .before .get .result) f) ≡ getD (bodiesOf f) (c .before .before .before .before .before .before .before .args .i) []) × (c .before .before .before .before .before .get .result + c .before .before .before .before .get2 .result ≤ length f)
-whole c = record-here _ (c .before .before .before .before .before .before .before .pre .0) _ _ _ (c .before .before .before .before .before .before .before .pre .1) (c .before .before .before .before .before .get .ensures) (c .before .before .before .before .get2 .ensures)
+whole : (c : tie.After-get2 Inv-loop μ-loop) → let a = c .before .before .before .args in
+    Stands (a .file .now) (a .i) (c .before .get .result) (c .get2 .result)
+whole c = let p = c .before .before .before .pre in record-here _ (p .0) (p .1) (c .before .get .ensures) (c .get2 .ensures)
 
--- what the comparison says
-says : (c : tie.After-same-part Inv-loop μ-loop) → let f = c .before .before .before .before .before .before .before .before .args .file .now in
-    c .same-part .result ≡ sameList (getD (bodiesOf f) (c .before .before .before .before .loop .k) []) (getD (bodiesOf f) (c .before .before .before .before .before .before .before .before .args .i) [])
-says c = c .same-part .ensures ∙ rw (here (c .before) .0, whole (c .before) .0)
+-- where record k + 1 stands
+here : (c : tie.After-get4 Inv-loop μ-loop) → let g = c .before .before .before in
+    Stands (g .before .before .before .before .args .file .now) (g .loop .k) (c .before .get3 .result) (c .get4 .result)
+here c = record-here _ (c .before .before .before .before .before .before .before .pre .0) (omega arith) (c .before .get3 .ensures) (c .get4 .ensures)
 
 loop-holds : tie.Need-loop-holds Inv-loop μ-loop
-loop-holds c = (omega arith, omega arith)
+loop-holds c = seeking-start
 
 mul-get-3 : tie.Need-mul-get-3 Inv-loop μ-loop
 mul-get-3 c = let r = file-room _ (c .before .before .before .before .before .pre .0) in omega arith
@@ -89,15 +74,16 @@ cast-m : tie.Need-cast-m Inv-loop μ-loop
 cast-m c = search needs
 
 same-part-requires : tie.Need-same-part-requires Inv-loop μ-loop
-same-part-requires c κs = (here c .1, whole c .1)
+same-part-requires c κs = (here c .inside, whole (c .before .before .before .before) .inside)
 
 add-result : tie.Need-add-result Inv-loop μ-loop
 add-result c = let r = file-room _ (c .before .before .before .before .before .before .before .before .before .pre .0) in omega arith
 
 returns : tie.Need-returns Inv-loop μ-loop
 returns c =
-    let n = count-bodies (c .before .before .before .before .before .before .before .before .before .args .file .now) in
-    sym (first-here _ _ _ (omega arith) (sym (says (c .before)) ∙ c .if1 .taken) (c .before .before .before .before .before .loop .inv .1))
+    let z = c .before .before in
+    let g = z .before .before .before in
+    seeking-here (g .loop .inv) (here z) (whole (g .before)) (c .before .same-part .ensures) (c .if1 .taken)
 
 add-k : tie.Need-add-k Inv-loop μ-loop
 add-k c = let r = file-room _ (c .before .before .before .before .before .before .before .before .before .pre .0) in omega arith
@@ -107,19 +93,15 @@ loop-less c = search needs
 
 loop-again : tie.Need-loop-again Inv-loop μ-loop
 loop-again c =
-    let n = count-bodies (c .before .before .before .before .before .before .before .before .before .args .file .now) in
-    (omega arith, first-on _ _ _ (omega arith) (sym (says (c .before)) ∙ c .if1 .left) (c .before .before .before .before .before .loop .inv .1))
+    let z = c .before .before in
+    let g = z .before .before .before in
+    seeking-turn (g .loop .inv) (here z) (whole (g .before)) (c .before .same-part .ensures) (c .if1 .left) (z .before .before .loop-test .taken)
 
 add-result-2 : tie.Need-add-result-2 Inv-loop μ-loop
 add-result-2 c = let r = file-room _ (c .before .before .before .before .before .pre .0) in omega arith
 
 returns-2 : tie.Need-returns-2 Inv-loop μ-loop
-returns-2 c =
-    let a = c .before .before .before .before .before .args in
-    let f = a .file .now in
-    let n = count-bodies f in
-    let z : c .before .loop .k ≡ a .i = omega arith in
-    sym (first-here _ _ _ (omega arith) (same-refl (getD (bodiesOf f) (a .i) [])) (rw z at (c .before .loop .inv .1)))
+returns-2 c = seeking-end (c .before .loop .inv) (c .loop-test .left) (c .before .before .before .before .before .pre .1)
 
 pub first-same-spec : {M : Type 1} → statement M
 first-same-spec =
