@@ -66,21 +66,21 @@ pub surveying-end : {s : List ℕ} {at n room : ℕ} → Surveying s at n room �
 surveying-end {s} {at} {n} {room} g h = let d = length-drop at s in sym (g .all ∙ survey-end room at n (drop at s) (omega arith))
 
 module _ {s : List ℕ} {at n room : ℕ} (g : Surveying s at n room) (h : at < length s) where
-  left : 0 < length (drop at s)
-  left = omega (arith, length-drop at s)
+  some-left : 0 < length (drop at s)
+  some-left = omega (arith, length-drop at s)
 
   pub surveying-many : room ≡ 0 → Many ≡ survey mostRecords 0 0 s
-  surveying-many e = sym (g .all ∙ survey-many room at n (drop at s) left e)
+  surveying-many e = sym (g .all ∙ survey-many room at n (drop at s) some-left e)
 
   module _ (e : room ≡ 0 → ⊥) where
     pub surveying-bad : {m p : ℕ} → NotBody m p ≡ bodyAnswer s at → Bad at ≡ survey mostRecords 0 0 s
-    surveying-bad {m} {p} a = sym (g .all ∙ survey-bad room at n (drop at s) left e (refused-says s at m p a))
+    surveying-bad {m} {p} a = sym (g .all ∙ survey-bad room at n (drop at s) some-left e (refused-says s at m p a))
 
     pub surveying-turn : {k : ℕ} → Length k ≡ bodyAnswer s at → Surveying s (at + k) (n + 1) (room - 1)
     surveying-turn {k} a =
         let b = length-says s at k a in
         let ek = b .1 in
-        let on = survey-on room at n (drop at s) left e (of-starts (drop at s) (b .0)) in
+        let on = survey-on room at n (drop at s) some-left e (of-starts (drop at s) (b .0)) in
         record {
           within = omega (arith, b .0 .room, length-drop at s);
           count = omega (arith, g .count, e);

@@ -1,4 +1,4 @@
--- Text put in pieces: pieces put one behind another are the whole.
+-- Text put in pieces: pieces put one behind another are the whole, and the place behind a short one is near.
 use mathlib.Core.Path.{_≡_, sym, ap, _∙_}
 use Prim.Native.Nat.{ℕ, _+_, _≤_, _<_}
 use mathlib.Core.List.{List, [], _∷_, _++_}

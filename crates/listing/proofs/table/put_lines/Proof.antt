@@ -16,6 +16,7 @@ Inv-loop out₀ at file firsts q₀ k₀ out q k = Lining out₀ at firsts (bodi
 abbrev μ-loop : tie.MeasureT-loop
 μ-loop out₀ at file firsts q₀ k₀ out q k = length firsts - k
 
+-- an accepted file has at most 1,024 records
 few : (z : tie.Start Inv-loop μ-loop) → length (z .args .firsts .now) ≤ mostRecords
 few z = listed-few _ _ (z .pre .0) (z .pre .1 .0)
 
