@@ -38,7 +38,7 @@ kindsOf b = map (λ (f : Fault). f .kind) (partsAt b .faults)
 kinds-two : (b : List ℕ) → isBody b ≡ true → (1 ≤ countAt b) × (countAt b ≤ 2)
 kinds-two b e = let s = body-starts b e in let n = fits-count (partsAt b) (s .0 .fits) in let c = count-eq b in (omega arith, omega arith)
 
-module _ (b : List ℕ) (c : ℕ) (ec : c ≡ numberAt b 8) where
+module _ (b : List ℕ) {c : ℕ} (ec : c ≡ numberAt b 8) where
   count-is : c ≡ countAt b
   unfolding countAt
   count-is = ec
@@ -56,12 +56,13 @@ module _ (b : List ℕ) (c : ℕ) (ec : c ≡ numberAt b 8) where
       let z : countAt b ≡ 2 = omega arith in
       rw (z, ek, el)
 
-  pub one-puts : {o o1 : List ℕ} {at r k : ℕ} → c ≡ 1 → k ≡ numberAt b 12 → Puts o at (field k space) r o1 → Puts o at (kindsText (kindsOf b)) r o1
-  one-puts {k = k} h ek = puts-same (kinds-one h k ek)
+  pub one-kind-puts : {o o1 : List ℕ} {at r k : ℕ} → c ≡ 1 → k ≡ numberAt b 12
+      → Puts o at (field k space) r o1 → Puts o at (kindsText (kindsOf b)) r o1
+  one-kind-puts {k = k} h ek = puts-same (kinds-one h k ek)
 
-  pub both-puts : {o o1 o2 : List ℕ} {at q r k l : ℕ} → isBody b ≡ true → (c ≡ 1 → ⊥) → k ≡ numberAt b 12 → l ≡ numberAt b 20
+  pub two-kinds-puts : {o o1 o2 : List ℕ} {at q r k l : ℕ} → isBody b ≡ true → (c ≡ 1 → ⊥) → k ≡ numberAt b 12 → l ≡ numberAt b 20
       → Puts o at (field k comma) q o1 → Puts o1 q (field l space) r o2 → Puts o at (kindsText (kindsOf b)) r o2
-  both-puts {k = k} {l = l} e h ek el one two = puts-same (kinds-both e h k l ek el) (puts-join one two)
+  two-kinds-puts {k = k} {l = l} e h ek el one two = puts-same (kinds-both e h k l ek el) (puts-join one two)
 
 depth-is : (b : List ℕ) (c d : ℕ) → c ≡ numberAt b 8 → d ≡ numberAt b (20 + 8 * c) → d ≡ length (partsAt b .blocks)
 unfolding depthAt countAt

@@ -1,7 +1,7 @@
 -- A body has one kind or two, and the fields are theirs.
 use native.Mathlib.Omega.{arith}
 use Rattle.listing.proofs.Putting.{field-near}
-use Rattle.listing.proofs.Lines.{one-puts, both-puts}
+use Rattle.listing.proofs.Lines.{one-kind-puts, two-kinds-puts}
 use borrow.Author.Needs.{needs}
 use Rattle.listing.proofs.table.put_kinds.Statement.{statement}
 use Rattle.listing.proofs.table.put_kinds.Tie as tie
@@ -24,7 +24,7 @@ same-length c = search needs
 returns : tie.Need-returns
 returns c =
     let z = c .before .before .before .before in
-    one-puts _ _ (z .before .before .get .ensures) (z .if1 .taken) (z .before .get2 .ensures) (c .before .before .put-field .ensures)
+    one-kind-puts _ (z .before .before .get .ensures) (z .if1 .taken) (z .before .get2 .ensures) (c .before .before .put-field .ensures)
 
 put-field-requires-2 : tie.Need-put-field-requires-2
 put-field-requires-2 c κs = search needs
@@ -49,7 +49,7 @@ returns-2 c =
     let first = test .before in
     let count = first .before in
     let body = count .before .before .before .pre .0 in
-    both-puts _ _ (count .get .ensures) body (test .if1 .left) (first .get2 .ensures) (last .before .get3 .ensures)
+    two-kinds-puts _ (count .get .ensures) body (test .if1 .left) (first .get2 .ensures) (last .before .get3 .ensures)
     (one .put-field2 .ensures) (last .put-field3 .ensures)
 
 pub put-kinds-spec : {M : Type 1} → statement M
