@@ -17,7 +17,8 @@ use Rattle.captures.specs.declared.testing.Verdict.{Verdict}
 use Rattle.captures.specs.declared.testing.Verdict.the-variants.{Fine, Broken}
 use Rattle.captures.specs.declared.testing.Places.{Places}
 use Rattle.captures.specs.Capture.{mark, edition, headerBytes, stateWords, sixthCount}
-use Rattle.captures.specs.Read.{headAt, countsAt, placesOf, numbersAt, captureIn, next, depthOf, testHead, testRooms, testState, verdictOf, Lent, lent, roomsOf, Within, filled, reading, judged, readOf}
+use Rattle.captures.specs.Read.{headAt, countsAt, placesOf, numbersAt, captureIn, next, depthOf, testHead, testRooms, testState, verdictOf}
+use Rattle.captures.specs.Read.{Lent, lent, roomsOf, Within, filled, reading, judged, readOf}
 
 -- ---- what the tests say
 
@@ -64,7 +65,14 @@ module _ (f : List ℕ) (rooms : Counts) where
         long = long;
         marked = eqb-true _ _ (rw (le-ltb (length f) 4 (omega arith)) at (a .1));
         edited = eqb-true _ _ (rw (le-ltb (length f) 8 (omega arith)) at (b .1));
-        within = record { code = leb-true _ _ (r1 .1); registers = leb-true _ _ (r2 .1); device = leb-true _ _ (r3 .1); local = leb-true _ _ (r4 .1); state = leb-true _ _ (r5 .1) };
+        within =
+            record {
+              code = leb-true _ _ (r1 .1);
+              registers = leb-true _ _ (r2 .1);
+              device = leb-true _ _ (r3 .1);
+              local = leb-true _ _ (r4 .1);
+              state = leb-true _ _ (r5 .1);
+            };
         shape = s .1;
         sixth = eqb-true _ _ (x .1);
         whole = eqb-true _ _ (w .1);
@@ -124,9 +132,9 @@ module _ (f : List ℕ) (l : Lent) (v : verdictOf f (roomsOf l) ≡ Fine) (n : C
 -- ---- the words taken
 
 module _ (f : List ℕ) (l : Lent) (n : Counts) (en : n ≡ countsAt f) (at : Places) (et : at ≡ placesOf (countsAt f)) where
-  pub taken : (a b c d e : List ℕ) → a ≡ placed (l .code) 0 (numbersAt f headerBytes (n .code)) → b ≡ placed (l .registers) 0 (numbersAt f (at .registers) (n .registers))
-      → c ≡ placed (l .device) 0 (numbersAt f (at .device) (n .device)) → d ≡ placed (l .local) 0 (numbersAt f (at .local) (n .local))
-      → e ≡ placed (l .state) 0 (numbersAt f (at .state) (n .state))
+  pub taken : (a b c d e : List ℕ) → a ≡ placed (l .code) 0 (numbersAt f headerBytes (n .code))
+      → b ≡ placed (l .registers) 0 (numbersAt f (at .registers) (n .registers)) → c ≡ placed (l .device) 0 (numbersAt f (at .device) (n .device))
+      → d ≡ placed (l .local) 0 (numbersAt f (at .local) (n .local)) → e ≡ placed (l .state) 0 (numbersAt f (at .state) (n .state))
       → lent a b c d e ≡ filled (captureIn f) l
   unfolding filled captureIn
   taken a b c d e ea eb ec ed ee = rw (ea, eb, ec, ed, ee, et, en)
@@ -138,6 +146,7 @@ module _ (f : List ℕ) (l : Lent) (v : Verdict) (ev : v ≡ verdictOf f (roomsO
   unfolding readOf judged
   read-broken r p e = rw (← ev, e)
 
-  pub read-fine : (h : Head) (n : Counts) (m : Lent) → v ≡ Fine → m ≡ filled (captureIn f) l → h ≡ headAt f → n ≡ countsAt f → reading (Read h n) m ≡ readOf f l
+  pub read-fine : (h : Head) (n : Counts) (m : Lent) → v ≡ Fine → m ≡ filled (captureIn f) l → h ≡ headAt f → n ≡ countsAt f
+      → reading (Read h n) m ≡ readOf f l
   unfolding readOf judged
   read-fine h n m e em eh en = rw (← ev, e, em, eh, en)

@@ -1,6 +1,6 @@
 -- Captures and their files give each other back: what is read where the parts stand is the parts, and the bytes of what is read
 -- are the file's.
-use mathlib.Core.Path.{_≡_, sym, ap, _∙_}
+use mathlib.Core.Path.{_≡_, refl, sym, ap, _∙_}
 use Prim.Native.Nat.{ℕ, _+_, _*_, _<_}
 use mathlib.Core.Bool.{true, _||_, or-true}
 use mathlib.Core.Logic.{⊎-elim}
@@ -8,23 +8,19 @@ use mathlib.Core.List.{List, [], _∷_, _++_, append-nil}
 use native.Mathlib.Omega.{arith}
 use lib.Dec.{eqb}
 use lib.ListN.{length, getD, drop}
-use lib.Seq.{drop-at, drop-length}
-use borrow.Author.Tests.{eqb-true, eq-eqb, lt-ltb}
-use Rattle.ground.proofs.Bools.{and-both}
+use lib.Seq.{drop-length}
+use borrow.Author.Tests.{eqb-true, eq-eqb}
 use Rattle.ground.proofs.Tests.{or-cases}
 use Rattle.numbers.specs.Numbers.{bytesOfAll, numberAt, Bytes, Small}
-use Rattle.numbers.proofs.Numerals.{length-bytesOfAll, bytes-append, number-nth, number-drop, small-nil, small-cons, small-tail, small-append, small-drop, Holds, holds-join}
+use Rattle.numbers.proofs.Numerals.{small-nil, small-cons, small-append, Stand, stand-nth, stand-front, stand-rest, Holds, holds-join}
 use Rattle.captures.specs.declared.answer.Counts.{Counts}
-use Rattle.captures.specs.Capture.{mark, edition, headerBytes, Capture, headOf, headerOf, wordsOf, captureOf, stateWords, stateFits, fits, Filed, depthWord}
+use Rattle.captures.specs.declared.testing.Places.{Places}
+use Rattle.captures.specs.Capture.{mark, edition, headerBytes, Capture, headOf, headerOf, wordsOf, captureOf}
+use Rattle.captures.specs.Capture.{stateWords, stateFits, fits, Filed, depthWord}
 use Rattle.captures.specs.Read.{headAt, countsAt, placesOf, numbersAt, captureIn, depthOf, countsOf, Within}
-use Rattle.captures.proofs.Words.{length-numbers, getD-numbers, numbers-back, drop-behind, numbers-hold, numbers-small}
-use Rattle.captures.proofs.Laid.{fits-known, length-capture}
+use Rattle.captures.proofs.Words.{length-numbers, getD-numbers, numbers-back, numbers-hold, numbers-small}
+use Rattle.captures.proofs.Laid.{fits-known, known-fits, length-capture}
 use Rattle.captures.proofs.Accepted.{Accepted}
-
--- the first of small numbers are small
-small-front : (ms ns : List ℕ) → Small (ms ++ ns) → Small ms
-small-front [] ns h = small-nil
-small-front (m ∷ ms) ns h = small-cons m ms (h .below 0) (small-front ms ns (small-tail h))
 
 -- ---- a state's count and depth, where `word` is read as the depth and d stands there
 
@@ -35,7 +31,9 @@ module _ (n d word : ℕ) (same : 6 < n → word ≡ d) where
   shape-so e =
       ⊎-elim
       (λ (z : eqb n 0 ≡ true). rw z)
-      (λ (z : eqb n (stateWords d) ≡ true). let w = eqb-true n (stateWords d) z in rw (eq-eqb n (stateWords (depthOf n)) (omega arith)) (or-true (eqb n 0)))
+      (λ (z : eqb n (stateWords d) ≡ true).
+      let w = eqb-true n (stateWords d) z in
+      rw (eq-eqb n (stateWords (depthOf n)) (omega arith)) (or-true (eqb n 0)))
       (or-cases (eqb n 0) (eqb n (stateWords d)) e)
 
   -- ... and the depth that it gives
@@ -51,7 +49,8 @@ module _ (n d word : ℕ) (same : 6 < n → word ≡ d) where
       (or-cases (eqb n 0) (eqb n (stateWords d)) e)
 
   -- words with both are a state's
-  state-so : (eqb n 0 || eqb n (stateWords (depthOf n))) ≡ true → (eqb n 0 || eqb word (depthOf n)) ≡ true → (eqb n 0 || eqb n (stateWords d)) ≡ true
+  state-so : (eqb n 0 || eqb n (stateWords (depthOf n))) ≡ true → (eqb n 0 || eqb word (depthOf n)) ≡ true
+      → (eqb n 0 || eqb n (stateWords d)) ≡ true
   state-so e k =
       ⊎-elim
       (λ (z : eqb n 0 ≡ true). rw z)
@@ -69,82 +68,69 @@ module _ (n d word : ℕ) (same : 6 < n → word ≡ d) where
 -- ---- from a capture to its file and back
 
 module _ (c : Capture) (g : Filed c) where
-  file-parts : captureOf c ≡ bytesOfAll (headerOf c) ++ bytesOfAll (wordsOf c)
+  file-stands : Stand (captureOf c) [] 0 (headerOf c ++ wordsOf c)
   unfolding captureOf
-  file-parts = bytes-append (headerOf c) (wordsOf c)
+  file-stands = record { small = g .small; bytes = sym (append-nil (bytesOfAll (headerOf c ++ wordsOf c))) }
 
   -- a number of the header
   header-at : (i : ℕ) → i < 13 → numberAt (captureOf c) (4 * i) ≡ getD (headerOf c) i 0
   unfolding headerOf
-  header-at i h =
-      ap (λ (f : List ℕ). numberAt f (4 * i)) file-parts ∙ number-nth (headerOf c) (bytesOfAll (wordsOf c)) i (small-front (headerOf c) (wordsOf c) (g .small)) h
+  header-at i h = stand-nth (headerOf c) (stand-front (headerOf c) (wordsOf c) file-stands) (4 * i) i (omega arith) h
 
   pub head-back : headAt (captureOf c) ≡ c .head
   unfolding headAt headerOf
-  head-back = rw (header-at 2 (omega arith), header-at 3 (omega arith), header-at 4 (omega arith), header-at 5 (omega arith), header-at 6 (omega arith))
+  head-back =
+      let n = header-at in
+      rw (n 2 (omega arith), n 3 (omega arith), n 4 (omega arith), n 5 (omega arith), n 6 (omega arith))
 
   pub counts-back : countsAt (captureOf c) ≡ countsOf c
   unfolding countsAt countsOf headerOf
-  counts-back = rw (header-at 7 (omega arith), header-at 8 (omega arith), header-at 9 (omega arith), header-at 10 (omega arith), header-at 11 (omega arith))
+  counts-back =
+      let n = header-at in
+      rw (n 7 (omega arith), n 8 (omega arith), n 9 (omega arith), n 10 (omega arith), n 11 (omega arith))
 
-  -- where the words of each part stand
-  at-code : drop headerBytes (captureOf c) ≡ bytesOfAll (c .code) ++ bytesOfAll (c .registers ++ (c .device ++ (c .local ++ c .state)))
-  unfolding headerOf wordsOf
-  at-code =
-      ap (drop headerBytes) file-parts
-      ∙ drop-at (bytesOfAll (headerOf c)) (bytesOfAll (wordsOf c)) headerBytes (length-bytesOfAll (headerOf c))
-      ∙ bytes-append (c .code) (c .registers ++ (c .device ++ (c .local ++ c .state)))
+  -- where the words of each part stand, and those of the parts behind it
+  abbrev at : Places
+  at = placesOf (countsOf c)
 
-  at-registers : drop (headerBytes + 4 * length (c .code)) (captureOf c) ≡ bytesOfAll (c .registers) ++ bytesOfAll (c .device ++ (c .local ++ c .state))
-  at-registers = drop-behind (captureOf c) _ (c .code) headerBytes at-code ∙ bytes-append (c .registers) (c .device ++ (c .local ++ c .state))
+  at-code : Stand (captureOf c) [] headerBytes (wordsOf c)
+  unfolding headerOf
+  at-code = stand-rest (headerOf c) (wordsOf c) file-stands
 
-  at-device : drop (headerBytes + 4 * length (c .code) + 4 * length (c .registers)) (captureOf c) ≡ bytesOfAll (c .device) ++ bytesOfAll (c .local ++ c .state)
-  at-device = drop-behind (captureOf c) _ (c .registers) _ at-registers ∙ bytes-append (c .device) (c .local ++ c .state)
+  at-registers : Stand (captureOf c) [] (at .registers) (c .registers ++ (c .device ++ (c .local ++ c .state)))
+  unfolding placesOf countsOf wordsOf
+  at-registers = stand-rest (c .code) _ at-code
 
-  at-local : drop (headerBytes + 4 * length (c .code) + 4 * length (c .registers) + 4 * length (c .device)) (captureOf c) ≡ bytesOfAll (c .local) ++ bytesOfAll (c .state)
-  at-local = drop-behind (captureOf c) _ (c .device) _ at-device ∙ bytes-append (c .local) (c .state)
+  at-device : Stand (captureOf c) [] (at .device) (c .device ++ (c .local ++ c .state))
+  unfolding placesOf countsOf
+  at-device = stand-rest (c .registers) _ at-registers
 
-  at-state : drop (headerBytes + 4 * length (c .code) + 4 * length (c .registers) + 4 * length (c .device) + 4 * length (c .local)) (captureOf c) ≡ bytesOfAll (c .state) ++ []
-  at-state = drop-behind (captureOf c) _ (c .local) _ at-local ∙ sym (append-nil (bytesOfAll (c .state)))
+  at-local : Stand (captureOf c) [] (at .local) (c .local ++ c .state)
+  unfolding placesOf countsOf
+  at-local = stand-rest (c .device) _ at-device
 
-  -- the words of each part are small
-  small-code : Small (c .code)
-  unfolding wordsOf
-  small-code = small-front (c .code) _ (small-drop (headerOf c) (wordsOf c) (g .small))
-
-  behind-code : Small (c .registers ++ (c .device ++ (c .local ++ c .state)))
-  unfolding wordsOf
-  behind-code = small-drop (c .code) _ (small-drop (headerOf c) (wordsOf c) (g .small))
-
-  behind-registers : Small (c .device ++ (c .local ++ c .state))
-  behind-registers = small-drop (c .registers) _ behind-code
-
-  behind-device : Small (c .local ++ c .state)
-  behind-device = small-drop (c .device) _ behind-registers
-
-  small-state : Small (c .state)
-  small-state = small-drop (c .local) _ behind-device
+  at-state : Stand (captureOf c) [] (at .state) (c .state)
+  unfolding placesOf countsOf
+  at-state = stand-rest (c .local) (c .state) at-local
 
   -- a capture comes back from its file
   pub capture-back : captureIn (captureOf c) ≡ c
-  unfolding captureIn placesOf countsOf
+  unfolding captureIn placesOf countsOf wordsOf
   capture-back =
       rw (
         counts-back,
         head-back,
-        numbers-back (captureOf c) _ (c .code) _ small-code at-code,
-        numbers-back (captureOf c) _ (c .registers) _ (small-front (c .registers) _ behind-code) at-registers,
-        numbers-back (captureOf c) _ (c .device) _ (small-front (c .device) _ behind-registers) at-device,
-        numbers-back (captureOf c) _ (c .local) _ (small-front (c .local) _ behind-device) at-local,
-        numbers-back (captureOf c) _ (c .state) _ small-state at-state,
+        numbers-back (c .code) _ (stand-front (c .code) _ at-code),
+        numbers-back (c .registers) _ (stand-front (c .registers) _ at-registers),
+        numbers-back (c .device) _ (stand-front (c .device) _ at-device),
+        numbers-back (c .local) _ (stand-front (c .local) _ at-local),
+        numbers-back (c .state) _ at-state,
       )
 
   -- the depth is read off the state's seventh word
-  depth-back : 6 < length (c .state) → numberAt (captureOf c) (placesOf (countsOf c) .depth) ≡ getD (c .state) depthWord 0
-  unfolding placesOf countsOf
-  depth-back h =
-      let p = headerBytes + 4 * length (c .code) + 4 * length (c .registers) + 4 * length (c .device) + 4 * length (c .local) in
-      sym (number-drop (captureOf c) p 24) ∙ ap (λ (f : List ℕ). numberAt f 24) at-state ∙ number-nth (c .state) [] 6 small-state h
+  depth-back : 6 < length (c .state) → numberAt (captureOf c) (at .depth) ≡ getD (c .state) depthWord 0
+  unfolding placesOf
+  depth-back h = stand-nth (c .state) at-state (at .depth) 6 refl h
 
   -- the file of a capture breaks no rule
   pub file-accepted : (rooms : Counts) → Within (countsOf c) rooms → Accepted (captureOf c) rooms
@@ -197,10 +183,15 @@ module _ (f : List ℕ) (by : Bytes f) (rooms : Counts) (a : Accepted f rooms) w
   file-filed =
       let n = countsAt f in
       let at = placesOf n in
-      let small = numbers-small f in
+      let state = numbersAt f (at .state) (n .state) in
+      let same : 6 < n .state → numberAt f (at .depth) ≡ getD state depthWord 0 = λ h. sym (getD-numbers f (at .state) (n .state) 6 h) in
+      let from-local = small-append _ _ (numbers-small f (at .local) (n .local) by) (numbers-small f (at .state) (n .state) by) in
+      let from-device = small-append _ _ (numbers-small f (at .device) (n .device) by) from-local in
+      let from-registers = small-append _ _ (numbers-small f (at .registers) (n .registers) by) from-device in
+      let from-code = small-append _ _ (numbers-small f headerBytes (n .code) by) from-registers in
       record {
-        small = small-append (headerOf (captureIn f)) _ (rw header-numbers (small 0 13 by)) (small-append _ _ (small headerBytes (n .code) by) (small-append _ _ (small (at .registers) (n .registers) by) (small-append _ _ (small (at .device) (n .device) by) (small-append _ _ (small (at .local) (n .local) by) (small (at .state) (n .state) by)))));
-        shape = rw (length-numbers f (at .state) (n .state)) (state-so (n .state) (getD (numbersAt f (at .state) (n .state)) depthWord 0) (numberAt f (at .depth)) (λ h. sym (getD-numbers f (at .state) (n .state) 6 h)) (a .shape) (a .deep));
+        small = small-append (headerOf (captureIn f)) _ (rw header-numbers (numbers-small f 0 13 by)) from-code;
+        shape = rw (length-numbers f (at .state) (n .state)) (state-so (n .state) _ _ same (a .shape) (a .deep));
       }
 
   pub counts-in : countsOf (captureIn f) ≡ countsAt f
@@ -211,10 +202,11 @@ module _ (f : List ℕ) (by : Bytes f) (rooms : Counts) (a : Accepted f rooms) w
 
 module _ (c : Capture) where
   pub filed-fits : Filed c → fits c ≡ true
-  unfolding fits headerOf
+  unfolding headerOf
   filed-fits g =
       let h = g .small in
-      and-both _ _ (lt-ltb _ _ (h .below 7)) (and-both _ _ (lt-ltb _ _ (h .below 8)) (and-both _ _ (lt-ltb _ _ (h .below 9)) (and-both _ _ (lt-ltb _ _ (h .below 10)) (and-both _ _ (lt-ltb _ _ (h .below 11)) (g .shape)))))
+      known-fits c
+      (record { code = h .below 7; registers = h .below 8; device = h .below 9; local = h .below 10; state = h .below 11; shape = g .shape })
 
   -- a capture of words that has a file
   pub fits-filed : fits c ≡ true → Small (headOf c) → Small (wordsOf c) → Filed c
@@ -222,7 +214,9 @@ module _ (c : Capture) where
   fits-filed e h w =
       let k = fits-known c e in
       let rest = small-append (0 ∷ []) (wordsOf c) (small-cons 0 [] (omega arith) small-nil) w in
+      let from-device = small-cons _ _ (k .device) (small-cons _ _ (k .local) (small-cons _ _ (k .state) rest)) in
+      let from-code = small-cons _ _ (k .code) (small-cons _ _ (k .registers) from-device) in
       record {
-        small = small-cons mark _ (omega arith) (small-cons edition _ (omega arith) (small-append (headOf c) _ h (small-cons _ _ (k .code) (small-cons _ _ (k .registers) (small-cons _ _ (k .device) (small-cons _ _ (k .local) (small-cons _ _ (k .state) rest)))))));
+        small = small-cons mark _ (omega arith) (small-cons edition _ (omega arith) (small-append (headOf c) _ h from-code));
         shape = k .shape;
       }

@@ -1,17 +1,17 @@
 -- A capture's file, laid down part by part: how long it is, and that the parts put one behind another are the file.
-use mathlib.Core.Path.{_≡_, refl, sym, ap, ap₂, _∙_}
+use mathlib.Core.Path.{_≡_, refl}
 use Prim.Native.Nat.{ℕ, _+_, _*_, _≤_, _<_}
 use mathlib.Core.Bool.{Bool, true, false, _&&_, and-assoc}
 use mathlib.Core.List.{List, _++_}
 use native.Mathlib.Omega.{arith}
 use lib.Dec.{ltb}
 use lib.ListN.{length, length-append}
-use borrow.Author.Tests.{ltb-true, le-leb, lt-leb}
-use Rattle.ground.proofs.Bools.{and-left, and-right}
+use borrow.Author.Tests.{ltb-true, lt-ltb, le-leb, lt-leb}
+use Rattle.ground.proofs.Bools.{and-left, and-right, and-both}
 use Rattle.numbers.specs.Numbers.{bound, bytesOfAll}
 use Rattle.numbers.specs.Placed.{placed}
-use Rattle.numbers.proofs.Numerals.{length-bytesOfAll, bytes-append}
-use Rattle.numbers.proofs.Placing.{placed-append}
+use Rattle.numbers.proofs.Numerals.{length-bytesOfAll}
+use Rattle.numbers.proofs.Behind.{behind}
 use Rattle.captures.specs.declared.answer.WriteAnswer.the-variants.{Wrote, Refused}
 use Rattle.captures.specs.Capture.{headerBytes, Capture, headerOf, wordsOf, captureOf, stateFits, fits}
 use Rattle.captures.specs.Write.{short, notOfLayout, wrote, writeOf}
@@ -29,7 +29,12 @@ pub record Fitting (c : Capture) : Type 0 where
 module _ (c : Capture) where
   -- the tests as the code makes them
   pub fits-so : (s : Bool) → s ≡ stateFits (c .state)
-      → (((((ltb (length (c .code)) bound && ltb (length (c .registers)) bound) && ltb (length (c .device)) bound) && ltb (length (c .local)) bound) && ltb (length (c .state)) bound) && s) ≡ fits c
+      → (((((ltb (length (c .code)) bound
+      && ltb (length (c .registers)) bound)
+      && ltb (length (c .device)) bound)
+      && ltb (length (c .local)) bound)
+      && ltb (length (c .state)) bound)
+      && s) ≡ fits c
   unfolding fits
   fits-so s e = rw e (simp and-assoc)
 
@@ -49,9 +54,22 @@ module _ (c : Capture) where
         shape = and-right (ltb (length (c .state)) bound) _ l;
       }
 
+  pub known-fits : Fitting c → fits c ≡ true
+  unfolding fits
+  known-fits k =
+      and-both _ _ (lt-ltb _ _ (k .code))
+      (and-both _ _ (lt-ltb _ _ (k .registers))
+      (and-both _ _ (lt-ltb _ _ (k .device))
+      (and-both _ _ (lt-ltb _ _ (k .local))
+      (and-both _ _ (lt-ltb _ _ (k .state)) (k .shape)))))
+
 -- ---- the file's length
 
-pub length-capture : (c : Capture) → length (captureOf c) ≡ headerBytes + 4 * (length (c .code) + length (c .registers) + length (c .device) + length (c .local) + length (c .state))
+-- the words of all parts
+abbrev wordCount : Capture → ℕ
+wordCount c = length (c .code) + length (c .registers) + length (c .device) + length (c .local) + length (c .state)
+
+pub length-capture : (c : Capture) → length (captureOf c) ≡ headerBytes + 4 * wordCount c
 unfolding captureOf headerOf wordsOf
 length-capture c =
     let b = length-bytesOfAll (headerOf c ++ wordsOf c) in
@@ -63,26 +81,20 @@ length-capture c =
 
 -- ---- part by part
 
-put-append : (ms ns o : List ℕ) (p : ℕ) → placed o p (bytesOfAll (ms ++ ns)) ≡ placed (placed o p (bytesOfAll ms)) (p + 4 * length ms) (bytesOfAll ns)
-put-append ms ns o p = ap (placed o p) (bytes-append ms ns) ∙ placed-append (bytesOfAll ms) (bytesOfAll ns) o p ∙ ap (λ (k : ℕ). placed (placed o p (bytesOfAll ms)) (p + k) (bytesOfAll ns)) (length-bytesOfAll ms)
-
--- numbers put behind numbers
-put-behind : (ms ns o o₁ o₂ : List ℕ) (p q : ℕ) → q ≡ p + 4 * length ms → o₁ ≡ placed o p (bytesOfAll ms) → o₂ ≡ placed o₁ q (bytesOfAll ns) → o₂ ≡ placed o p (bytesOfAll (ms ++ ns))
-put-behind ms ns o o₁ o₂ p q k a b = b ∙ ap₂ (λ (x : List ℕ) (y : ℕ). placed x y (bytesOfAll ns)) a k ∙ sym (put-append ms ns o p)
-
 module _ (c : Capture) (o o₁ o₂ o₃ o₄ o₅ o₆ : List ℕ) (registers device local state : ℕ)
     (r : registers ≡ headerBytes + 4 * length (c .code)) (d : device ≡ registers + 4 * length (c .registers))
     (l : local ≡ device + 4 * length (c .device)) (s : state ≡ local + 4 * length (c .local)) where
-  pub laid : o₁ ≡ placed o 0 (bytesOfAll (headerOf c)) → o₂ ≡ placed o₁ headerBytes (bytesOfAll (c .code)) → o₃ ≡ placed o₂ registers (bytesOfAll (c .registers))
-      → o₄ ≡ placed o₃ device (bytesOfAll (c .device)) → o₅ ≡ placed o₄ local (bytesOfAll (c .local)) → o₆ ≡ placed o₅ state (bytesOfAll (c .state))
+  pub laid : o₁ ≡ placed o 0 (bytesOfAll (headerOf c)) → o₂ ≡ placed o₁ headerBytes (bytesOfAll (c .code))
+      → o₃ ≡ placed o₂ registers (bytesOfAll (c .registers)) → o₄ ≡ placed o₃ device (bytesOfAll (c .device))
+      → o₅ ≡ placed o₄ local (bytesOfAll (c .local)) → o₆ ≡ placed o₅ state (bytesOfAll (c .state))
       → o₆ ≡ placed o 0 (captureOf c)
   unfolding captureOf headerOf wordsOf
   laid e1 e2 e3 e4 e5 e6 =
-      let h5 = put-behind (c .local) (c .state) o₄ o₅ o₆ local state s e5 e6 in
-      let h4 = put-behind (c .device) _ o₃ o₄ o₆ device local l e4 h5 in
-      let h3 = put-behind (c .registers) _ o₂ o₃ o₆ registers device d e3 h4 in
-      let h2 = put-behind (c .code) _ o₁ o₂ o₆ headerBytes registers r e2 h3 in
-      put-behind (headerOf c) _ o o₁ o₆ 0 headerBytes refl e1 h2
+      let h5 = behind (c .local) (c .state) o₄ o₅ o₆ local state s e5 e6 in
+      let h4 = behind (c .device) _ o₃ o₄ o₆ device local l e4 h5 in
+      let h3 = behind (c .registers) _ o₂ o₃ o₆ registers device d e3 h4 in
+      let h2 = behind (c .code) _ o₁ o₂ o₆ headerBytes registers r e2 h3 in
+      behind (headerOf c) _ o o₁ o₆ 0 headerBytes refl e1 h2
 
 -- ---- the answer
 
@@ -91,11 +103,11 @@ module _ (c : Capture) (o : List ℕ) where
   unfolding writeOf
   write-not e = rw e
 
-  pub write-short : fits c ≡ true → length o < headerBytes + 4 * (length (c .code) + length (c .registers) + length (c .device) + length (c .local) + length (c .state))
-      → wrote (Refused short 0) o ≡ writeOf c o
+  pub write-short : fits c ≡ true → length o < headerBytes + 4 * wordCount c → wrote (Refused short 0) o ≡ writeOf c o
   unfolding writeOf
   write-short e h = let l = length-capture c in rw (e, lt-leb (length (captureOf c)) (length o) (omega arith))
 
-  pub write-so : (n : ℕ) (x : List ℕ) → fits c ≡ true → n ≡ length (captureOf c) → n ≤ length o → x ≡ placed o 0 (captureOf c) → wrote (Wrote n) x ≡ writeOf c o
+  pub write-so : (n : ℕ) (x : List ℕ) → fits c ≡ true → n ≡ length (captureOf c) → n ≤ length o → x ≡ placed o 0 (captureOf c)
+      → wrote (Wrote n) x ≡ writeOf c o
   unfolding writeOf
   write-so n x e q h p = rw (e, le-leb (length (captureOf c)) (length o) (omega arith), p, q)

@@ -13,7 +13,8 @@ use Rattle.captures.specs.declared.testing.Verdict.{Verdict}
 use Rattle.captures.specs.declared.testing.Verdict.the-variants.{Fine, Broken}
 use Rattle.captures.specs.declared.answer.Counts.{Counts}
 use Rattle.captures.specs.declared.testing.Places.{Places}
-use Rattle.captures.specs.Capture.{mark, edition, headerBytes, stateWords, stateFits, codeCount, registersCount, deviceCount, localCount, stateCount, sixthCount, depthWord}
+use Rattle.captures.specs.Capture.{mark, edition, headerBytes, stateWords, stateFits, depthWord}
+use Rattle.captures.specs.Capture.{codeCount, registersCount, deviceCount, localCount, stateCount, sixthCount}
 use Rattle.captures.specs.Read.{headAt, countsAt, placesOf, next, depthOf, testHead, testRooms, testState, verdictOf}
 
 -- ---- a state's words
@@ -38,12 +39,14 @@ module _ (f : List ℕ) (a b c d e : ℕ) where
   unfolding headAt
   head-so ea eb ec ed ee = rw (ea, eb, ec, ed, ee)
 
-  pub counts-so : a ≡ numberAt f codeCount → b ≡ numberAt f registersCount → c ≡ numberAt f deviceCount → d ≡ numberAt f localCount → e ≡ numberAt f stateCount
+  pub counts-so : a ≡ numberAt f codeCount → b ≡ numberAt f registersCount → c ≡ numberAt f deviceCount
+      → d ≡ numberAt f localCount → e ≡ numberAt f stateCount
       → record { code = a; registers = b; device = c; local = d; state = e } ≡ countsAt f
   unfolding countsAt
   counts-so ea eb ec ed ee = rw (ea, eb, ec, ed, ee)
 
-  pub places-so : a ≡ numberAt f codeCount → b ≡ numberAt f registersCount → c ≡ numberAt f deviceCount → d ≡ numberAt f localCount → e ≡ numberAt f stateCount
+  pub places-so : a ≡ numberAt f codeCount → b ≡ numberAt f registersCount → c ≡ numberAt f deviceCount
+      → d ≡ numberAt f localCount → e ≡ numberAt f stateCount
       → placesOf (record { code = a; registers = b; device = c; local = d; state = e }) ≡ placesOf (countsAt f)
   places-so ea eb ec ed ee = ap placesOf (counts-so ea eb ec ed ee)
 
@@ -72,13 +75,15 @@ module _ (f : List ℕ) (m n : ℕ) (a b c : Verdict) where
   head-tested em ea en eb ec = rw (ec, eb, ea, em, en)
 
 module _ (v : Verdict) (n rooms : Counts) (a b c d e : Verdict) where
-  pub rooms-tested : a ≡ next v (leb (n .code) (rooms .code)) Rule.Room codeCount → b ≡ next a (leb (n .registers) (rooms .registers)) Rule.Room registersCount
+  pub rooms-tested : a ≡ next v (leb (n .code) (rooms .code)) Rule.Room codeCount
+      → b ≡ next a (leb (n .registers) (rooms .registers)) Rule.Room registersCount
       → c ≡ next b (leb (n .device) (rooms .device)) Rule.Room deviceCount → d ≡ next c (leb (n .local) (rooms .local)) Rule.Room localCount
       → e ≡ next d (leb (n .state) (rooms .state)) Rule.Room stateCount → e ≡ testRooms v n rooms
   unfolding testRooms
   rooms-tested ea eb ec ed ee = rw (ee, ed, ec, eb, ea)
 
-module _ (v : Verdict) (f : List ℕ) (n depth : ℕ) (at : Places) (en : n ≡ numberAt f stateCount) (ep : depth ≡ depthOf n) (et : at ≡ placesOf (countsAt f)) where
+module _ (v : Verdict) (f : List ℕ) (n depth : ℕ) (at : Places)
+    (en : n ≡ numberAt f stateCount) (ep : depth ≡ depthOf n) (et : at ≡ placesOf (countsAt f)) where
   pub state-tested : (six least word : ℕ) (a b c d : Verdict) → a ≡ next v (eqb n 0 || eqb n (stateWords depth)) Rule.StateCount stateCount
       → six ≡ numberAt f sixthCount → b ≡ next a (eqb six 0) Rule.SixthCount sixthCount
       → least ≡ min (length f) (at .end) → c ≡ next b (eqb (length f) (at .end)) Rule.Length least
@@ -86,7 +91,8 @@ module _ (v : Verdict) (f : List ℕ) (n depth : ℕ) (at : Places) (en : n ≡ 
   unfolding testState countsAt
   state-tested six least word a b c d ea es eb el ec ew ed = rw (ed, ew, ec, el, eb, es, ea, et, ep, en)
 
-pub all-tested : (f : List ℕ) (n rooms : Counts) (a b c : Verdict) → a ≡ testHead f → n ≡ countsAt f → b ≡ testRooms a n rooms → c ≡ testState b f → c ≡ verdictOf f rooms
+pub all-tested : (f : List ℕ) (n rooms : Counts) (a b c : Verdict) → a ≡ testHead f → n ≡ countsAt f → b ≡ testRooms a n rooms
+    → c ≡ testState b f → c ≡ verdictOf f rooms
 unfolding verdictOf
 all-tested f n rooms a b c ea en eb ec = rw (ec, eb, en, ea)
 

@@ -24,16 +24,20 @@ use Rattle.captures.specs.Write.{short, notOfLayout, Writing, writeOf}
 use Rattle.captures.specs.Read.{captureIn, verdictOf, Lent, roomsOf, countsOf, Within, filled, reading, judged, readOf}
 use Rattle.captures.proofs.Laid.{write-so}
 use Rattle.captures.proofs.Accepted.{accepted, is-accepted, read-fine}
-use Rattle.captures.proofs.Files.{head-back, counts-back, capture-back, file-accepted, file-back, file-filed, counts-in, filed-fits, fits-filed}
+use Rattle.captures.proofs.Files.{head-back, counts-back, capture-back, file-accepted}
+use Rattle.captures.proofs.Files.{file-back, file-filed, counts-in, filed-fits, fits-filed}
 
 -- THEOREM: the file of a capture is read as that capture, wherever there is room for it ...
-pub read-back : (c : Capture) → Filed c → (l : Lent) → Within (countsOf c) (roomsOf l) → readOf (captureOf c) l ≡ reading (Read (c .head) (countsOf c)) (filled c l)
+pub read-back : (c : Capture) → Filed c → (l : Lent) → Within (countsOf c) (roomsOf l)
+    → readOf (captureOf c) l ≡ reading (Read (c .head) (countsOf c)) (filled c l)
 read-back c g l w =
     let v = is-accepted (captureOf c) (roomsOf l) (file-accepted c g (roomsOf l) w) in
-    sym (read-fine (captureOf c) l Fine (sym v) (c .head) (countsOf c) (filled c l) refl (ap (λ (d : Capture). filled d l) (sym (capture-back c g))) (sym (head-back c g)) (sym (counts-back c g)))
+    let after = ap (λ (d : Capture). filled d l) (sym (capture-back c g)) in
+    sym (read-fine (captureOf c) l Fine (sym v) _ _ _ refl after (sym (head-back c g)) (sym (counts-back c g)))
 
 -- the front of a buffer that a file was written to
-written-front : (c : Capture) (o : List ℕ) → fits c ≡ true → length (captureOf c) ≤ length o → take (length (captureOf c)) (writeOf c o .file) ≡ captureOf c
+written-front : (c : Capture) (o : List ℕ) → fits c ≡ true → length (captureOf c) ≤ length o
+    → take (length (captureOf c)) (writeOf c o .file) ≡ captureOf c
 written-front c o e h =
     ap (λ (x : Writing). take (length (captureOf c)) (x .file)) (sym (write-so c o _ _ e refl h refl))
     ∙ ap (take (length (captureOf c))) (placed-front o (captureOf c) h)
@@ -41,10 +45,12 @@ written-front c o e h =
 
 -- ... and that file is what stands in a buffer that it was written to
 pub write-read : (c : Capture) → Filed c → (o : List ℕ) → length (captureOf c) ≤ length o → (l : Lent) → Within (countsOf c) (roomsOf l)
-    → (writeOf c o .answer ≡ Wrote (length (captureOf c))) × (readOf (take (length (captureOf c)) (writeOf c o .file)) l ≡ reading (Read (c .head) (countsOf c)) (filled c l))
+    → (writeOf c o .answer ≡ Wrote (length (captureOf c)))
+    × (readOf (take (length (captureOf c)) (writeOf c o .file)) l ≡ reading (Read (c .head) (countsOf c)) (filled c l))
 write-read c g o h l w =
     let e = filed-fits c g in
-    (ap (λ (x : Writing). x .answer) (sym (write-so c o _ _ e refl h refl)), ap (λ (f : List ℕ). readOf f l) (written-front c o e h) ∙ read-back c g l w)
+    let answer = ap (λ (x : Writing). x .answer) (sym (write-so c o _ _ e refl h refl)) in
+    (answer, ap (λ (f : List ℕ). readOf f l) (written-front c o e h) ∙ read-back c g l w)
 
 -- THEOREM: no two captures have the same file
 pub one-capture : (c d : Capture) → Filed c → Filed d → captureOf c ≡ captureOf d → c ≡ d
@@ -66,7 +72,9 @@ accepted-given f rooms by e =
     record { capture = captureIn f; filed = file-filed f by rooms a; within = rw (counts-in f by rooms a) (a .within); file = file-back f by rooms a }
 
 pub given-accepted : (f : List ℕ) (rooms : Counts) → Given f rooms → verdictOf f rooms ≡ Fine
-given-accepted f rooms g = ap (λ (x : List ℕ). verdictOf x rooms) (sym (g .file)) ∙ is-accepted (captureOf (g .capture)) rooms (file-accepted (g .capture) (g .filed) rooms (g .within))
+given-accepted f rooms g =
+    let c = g .capture in
+    ap (λ (x : List ℕ). verdictOf x rooms) (sym (g .file)) ∙ is-accepted (captureOf c) rooms (file-accepted c (g .filed) rooms (g .within))
 
 -- ... each of one capture ...
 pub given-once : (f : List ℕ) (rooms : Counts) (g h : Given f rooms) → g .capture ≡ h .capture
@@ -82,25 +90,33 @@ pub read-given : (f : List ℕ) (l : Lent) (h : Head) (n : Counts) → Bytes f �
 unfolding readOf
 read-given f l h n by e = accepted-given f (roomsOf l) by (read-tells (verdictOf f (roomsOf l)) f l h n e)
 
-pub given-read : (f : List ℕ) (l : Lent) (g : Given f (roomsOf l)) → readOf f l ≡ reading (Read (g .capture .head) (countsOf (g .capture))) (filled (g .capture) l)
+pub given-read : (f : List ℕ) (l : Lent) (g : Given f (roomsOf l))
+    → readOf f l ≡ reading (Read (g .capture .head) (countsOf (g .capture))) (filled (g .capture) l)
 given-read f l g = ap (λ (x : List ℕ). readOf x l) (sym (g .file)) ∙ read-back (g .capture) (g .filed) l (g .within)
 
 -- ---- written files
 
-write-tells : (c : Capture) (o : List ℕ) (n : ℕ) → writeOf c o .answer ≡ Wrote n → (fits c ≡ true) × (length (captureOf c) ≤ length o) × (length (captureOf c) ≡ n)
+refused-unwritten : (r p n : ℕ) → Refused r p ≡ Wrote n → ⊥
+refused-unwritten r p n e = let z : _≡_ {A = ℕ} 0 1 = cc in omega arith
+
+write-tells : (c : Capture) (o : List ℕ) (n : ℕ) → writeOf c o .answer ≡ Wrote n
+    → (fits c ≡ true) × (length (captureOf c) ≤ length o) × (length (captureOf c) ≡ n)
 unfolding writeOf
 write-tells c o n e =
     ⊎-elim
     (λ (h : fits c ≡ true).
     ⊎-elim
-    (λ (k : leb (length (captureOf c)) (length o) ≡ true). let y : Wrote (length (captureOf c)) ≡ Wrote n = simp (h, k) at e in (h, leb-true _ _ k, cc))
-    (λ (k : leb (length (captureOf c)) (length o) ≡ false). let y : Refused short 0 ≡ Wrote n = simp (h, k) at e in absurd (let z : _≡_ {A = ℕ} 0 1 = cc in omega arith))
+    (λ (k : leb (length (captureOf c)) (length o) ≡ true).
+    let y : Wrote (length (captureOf c)) ≡ Wrote n = simp (h, k) at e in
+    (h, leb-true _ _ k, cc))
+    (λ (k : leb (length (captureOf c)) (length o) ≡ false). absurd (refused-unwritten short 0 n (simp (h, k) at e)))
     (true-or-false (leb (length (captureOf c)) (length o))))
-    (λ (h : fits c ≡ false). let y : Refused notOfLayout 0 ≡ Wrote n = simp h at e in absurd (let z : _≡_ {A = ℕ} 0 1 = cc in omega arith))
+    (λ (h : fits c ≡ false). absurd (refused-unwritten notOfLayout 0 n (simp h at e)))
     (true-or-false (fits c))
 
 -- THEOREM: what was written is the file of a capture, for numbers of four bytes
-pub written-given : (c : Capture) (o : List ℕ) (n : ℕ) → Small (headOf c) → Small (wordsOf c) → writeOf c o .answer ≡ Wrote n → Given (take n (writeOf c o .file)) (countsOf c)
+pub written-given : (c : Capture) (o : List ℕ) (n : ℕ) → Small (headOf c) → Small (wordsOf c) → writeOf c o .answer ≡ Wrote n
+    → Given (take n (writeOf c o .file)) (countsOf c)
 written-given c o n h w e =
     let t = write-tells c o n e in
     record {

@@ -1,27 +1,25 @@
 -- Words that are put into a file, and taken out of one, number by number: what is left, from where the loop stands, gives the whole.
 use mathlib.Core.Path.{_≡_, refl, sym, ap, ap₂, _∙_}
 use Prim.Native.Nat.{ℕ, zero, suc, _+_, _*_, _-_, _≤_, _<_}
-use mathlib.Core.List.{List, [], _∷_, _++_, flatMap}
+use mathlib.Core.List.{List, [], _∷_, flatMap}
 use native.Mathlib.Omega.{arith}
 use native.Mathlib.Nat.{sub-zero}
 use native.Mathlib.Numerals.{add-one}
 use lib.ListN.{length, getD, drop, set, drop-of-length-le}
-use lib.Seq.{drop-cons, drop-at, drop-drop}
+use lib.Seq.{drop-cons}
 use Rattle.numbers.specs.Numbers.{bytesOf, bytesOfAll, numberAt, Bytes, Small}
 use Rattle.numbers.specs.Placed.{placed}
-use Rattle.numbers.proofs.Numerals.{length-bytesOf, length-bytesOfAll, number-small, small-nil, small-cons, small-tail, peel, peel-rest, Holds, holds-next}
-use Rattle.numbers.proofs.Placing.{placed-append, placed-nil}
+use Rattle.numbers.proofs.Numerals.{number-small, small-nil, small-cons, Stand, stand-nth, stand-rest, Holds, holds-none, holds-next}
+use Rattle.numbers.proofs.Placing.{placed-nil}
+use Rattle.numbers.proofs.Behind.{behind-one}
 use Rattle.captures.specs.Read.{numbersAt}
 
 -- ---- put into a file
 
 pub put-on : (o o₁ xs : List ℕ) (p k : ℕ) → k < length xs → o₁ ≡ placed o p (bytesOf (getD xs k 0))
     → placed o₁ (p + 4) (bytesOfAll (drop (k + 1) xs)) ≡ placed o p (bytesOfAll (drop k xs))
-unfolding bytesOfAll flatMap
 put-on o o₁ xs p k h e =
-    let n = getD xs k 0 in
-    rw (drop-cons xs k 0 h, add-one k, e)
-    (sym (placed-append (bytesOf n) (flatMap bytesOf (drop (suc k) xs)) o p ∙ ap (λ (z : ℕ). placed (placed o p (bytesOf n)) (p + z) (flatMap bytesOf (drop (suc k) xs))) (length-bytesOf n)))
+    rw (drop-cons xs k 0 h, add-one k) (behind-one (getD xs k 0) (drop (suc k) xs) o o₁ _ p (p + 4) refl e refl)
 
 pub put-done : (o xs : List ℕ) (p k : ℕ) → length xs ≤ k → o ≡ placed o p (bytesOfAll (drop k xs))
 unfolding bytesOfAll flatMap
@@ -59,25 +57,25 @@ pub getD-numbers : (f : List ℕ) (p n i : ℕ) → i < n → getD (numbersAt f 
 unfolding numbersAt
 getD-numbers f p zero i h = absurd (omega arith)
 getD-numbers f p (suc n) zero h = let e : p + 4 * 0 ≡ p = omega arith in ap (numberAt f) (sym e)
-getD-numbers f p (suc n) (suc i) h = let e : p + 4 + 4 * i ≡ p + 4 * suc i = omega arith in getD-numbers f (p + 4) n i (omega arith) ∙ ap (numberAt f) e
+getD-numbers f p (suc n) (suc i) h =
+    let e : p + 4 + 4 * i ≡ p + 4 * suc i = omega arith in
+    getD-numbers f (p + 4) n i (omega arith) ∙ ap (numberAt f) e
 
--- words that stand somewhere are read there ...
-pub numbers-back : (s t xs : List ℕ) (p : ℕ) → Small xs → drop p s ≡ bytesOfAll xs ++ t → numbersAt s p (length xs) ≡ xs
+-- words that stand somewhere are read there
+pub numbers-back : {s t : List ℕ} (xs : List ℕ) (p : ℕ) → Stand s t p xs → numbersAt s p (length xs) ≡ xs
 unfolding numbersAt
-numbers-back s t [] p h e = refl
-numbers-back s t (x ∷ xs) p h e = ap₂ _∷_ (peel s t p x xs (h .below 0) e) (numbers-back s t xs (p + 4) (small-tail h) (peel-rest s t p x xs e))
-
--- ... and what is behind them stands behind them
-pub drop-behind : (s t xs : List ℕ) (p : ℕ) → drop p s ≡ bytesOfAll xs ++ t → drop (p + 4 * length xs) s ≡ t
-drop-behind s t xs p e = sym (drop-drop (4 * length xs) p s) ∙ ap (drop (4 * length xs)) e ∙ drop-at (bytesOfAll xs) t (4 * length xs) (length-bytesOfAll xs)
+numbers-back [] p h = refl
+numbers-back (x ∷ xs) p h =
+    ap₂ _∷_ (stand-nth (x ∷ xs) h p 0 (omega arith) (omega arith)) (numbers-back xs (p + 4) (stand-rest (x ∷ []) xs h))
 
 -- bytes are those of the words that are read there
 pub numbers-hold : (f : List ℕ) (p n : ℕ) → Bytes f → p + 4 * n ≤ length f → Holds f p (numbersAt f p n) (p + 4 * n)
-unfolding numbersAt bytesOfAll flatMap
-numbers-hold f p zero by h = let e : p ≡ p + 4 * 0 = omega arith in ap (λ (k : ℕ). drop k f) e
+unfolding numbersAt
+numbers-hold f p zero by h = let e : p + 4 * 0 ≡ p = omega arith in rw e (holds-none f p)
 numbers-hold f p (suc n) by h =
     let e : p + 4 + 4 * n ≡ p + 4 * suc n = omega arith in
-    holds-next f p (p + 4) (p + 4 * suc n) (numbersAt f (p + 4) n) by refl (omega arith) (numbers-hold f (p + 4) n by (omega arith) ∙ ap (λ (k : ℕ). bytesOfAll (numbersAt f (p + 4) n) ++ drop k f) e)
+    let rest = rw e at (numbers-hold f (p + 4) n by (omega arith)) in
+    holds-next f p (p + 4) (p + 4 * suc n) (numbersAt f (p + 4) n) by refl (omega arith) rest
 
 pub numbers-small : (f : List ℕ) (p n : ℕ) → Bytes f → Small (numbersAt f p n)
 unfolding numbersAt

@@ -47,7 +47,13 @@ module _ (words : ℕ) (short : words ≤ mostWords) where
   block-fits b s true e =
       rw (le-leb (b .opener) lastPlace (omega (arith, s .opener)), le-leb beforePart (b .part) (s .some), le-leb (b .part) loopPart (s .few), e)
   block-fits b s false e =
-      rw (le-leb (b .opener) lastPlace (omega (arith, s .opener)), le-leb beforePart (b .part) (s .some), le-leb (b .part) loopPart (s .few), e, s .quiet e)
+      rw (
+        le-leb (b .opener) lastPlace (omega (arith, s .opener)),
+        le-leb beforePart (b .part) (s .some),
+        le-leb (b .part) loopPart (s .few),
+        e,
+        s .quiet e,
+      )
 
   pub all-fit : (p : List Block) → AllSized words p → allOf blockFits (map blockOf (reverse p)) ≡ true
   unfolding allOf

@@ -40,7 +40,8 @@ module _ (kernel place : ℕ) (f : Faults) where
   head-stands o o₁ o₂ o₃ o₄ count at e1 e2 ec e3 e4 =
       let kinds = kindNumbers f in
       let p : at ≡ kindsPlace + 4 * length kinds = ap (λ (z : After). z .place) e4 in
-      let h3 = behind-one (length (kindsOf f)) kinds o₂ o₃ o₄ 8 12 refl (e3 ∙ ap (λ (n : ℕ). placed o₂ 8 (bytesOf n)) ec) (ap (λ (z : After). z .out) e4) in
+      let c3 = e3 ∙ ap (λ (n : ℕ). placed o₂ 8 (bytesOf n)) ec in
+      let h3 = behind-one (length (kindsOf f)) kinds o₂ o₃ o₄ 8 12 refl c3 (ap (λ (z : After). z .out) e4) in
       let h2 = behind-one place (length (kindsOf f) ∷ kinds) o₁ o₂ o₄ 4 8 refl e2 h3 in
       ap₂ after (omega (arith, p)) (behind-one kernel (place ∷ length (kindsOf f) ∷ kinds) o o₁ o₄ 0 4 refl e1 h2)
 
@@ -61,8 +62,9 @@ module _ (s : State) (low : s .hot .depth ≤ mostDepth) (long : length (s .bloc
   unfolding stateNumbers
   sixes-are = rw (block-numbers s (omega arith))
 
-  pub state-stands : (o o₁ o₂ o₃ o₄ : List ℕ) (at : ℕ) → o₁ ≡ placed o at (bytesOf (s .hot .active)) → o₂ ≡ placed o₁ (at + 4) (bytesOf (s .hot .halted))
-      → o₃ ≡ placed o₂ (at + 8) (bytesOf (s .hot .depth)) → o₄ ≡ placed o₃ (at + 12) (bytesOfAll sixes) → o₄ ≡ placed o at (bytesOfAll (stateNumbers s))
+  pub state-stands : (o o₁ o₂ o₃ o₄ : List ℕ) (at : ℕ) → o₁ ≡ placed o at (bytesOf (s .hot .active))
+      → o₂ ≡ placed o₁ (at + 4) (bytesOf (s .hot .halted)) → o₃ ≡ placed o₂ (at + 8) (bytesOf (s .hot .depth))
+      → o₄ ≡ placed o₃ (at + 12) (bytesOfAll sixes) → o₄ ≡ placed o at (bytesOfAll (stateNumbers s))
   state-stands o o₁ o₂ o₃ o₄ at e1 e2 e3 e4 =
       let h3 = behind-one (s .hot .depth) sixes o₂ o₃ o₄ (at + 8) (at + 12) (omega arith) e3 e4 in
       let h2 = behind-one (s .hot .halted) (s .hot .depth ∷ sixes) o₁ o₂ o₄ (at + 4) (at + 8) (omega arith) e2 h3 in
@@ -95,7 +97,8 @@ unfolding partsOf
 body-room kernel f s low = omega (arith, length-body (partsOf kernel f s), few-kinds f, length-blocks s)
 
 -- a depth over 32 gives no body
-pub deep-key : (kernel : ℕ) (f : Faults) (s : State) (out : List ℕ) → mostDepth < s .hot .depth → keyed (Refused notOfLayout 0) out ≡ bodyKey (partsOf kernel f s) out
+pub deep-key : (kernel : ℕ) (f : Faults) (s : State) (out : List ℕ) → mostDepth < s .hot .depth
+    → keyed (Refused notOfLayout 0) out ≡ bodyKey (partsOf kernel f s) out
 unfolding bodyKey partsOf
 deep-key kernel f s out h =
     let p = partsOf kernel f s in
@@ -124,7 +127,8 @@ module _ (s out : List ℕ) where
       let size : k ≡ sizeAt s = z .1 in
       simp (of-starts s (z .0), lt-leb (sizeAt s) (length out) (omega arith))
 
-  pub copy-so : (k : ℕ) (now : List ℕ) → Length k ≡ bodyAnswer s 0 → k ≤ length out → now ≡ placed out 0 (take k s) → keyed (Wrote k) now ≡ copied s out
+  pub copy-so : (k : ℕ) (now : List ℕ) → Length k ≡ bodyAnswer s 0 → k ≤ length out → now ≡ placed out 0 (take k s)
+      → keyed (Wrote k) now ≡ copied s out
   unfolding copied
   copy-so k now e h p =
       let z = length-says s 0 k e in

@@ -26,7 +26,7 @@ use Rattle.replay.proofs.Keeping.{inside}
 use Rattle.replay.proofs.Stopping.{FaultsAt}
 use Rattle.replay.proofs.FaultKinds.{Faulty, step-faulty, FaultLanes, step-lanes}
 use Rattle.replay.proofs.Returns.{Launchable, lanes-most, InOrder}
-use Rattle.key.specs.Body.{Block as SaidBlock, numbersOf}
+use Rattle.key.specs.Body.{numbersOf}
 use Rattle.key.specs.Layout.{mostDepth, blockFits, fitsLayout}
 use Rattle.key.proofs.Starts.{of-fits}
 use Rattle.keys.specs.Key.{partsOf}
@@ -94,5 +94,5 @@ module _ (s : Settings) (code : List ℕ) (l : Launchable s code) (m : Machine) 
         place = omega (arith, there, few-words);
         faults = kinds-fit f faulty (x .unclear);
         depth = omega (arith, length-blocks (stateOf (m .wave) (m .preds)), room);
-        blocks = ap (λ (p : List SaidBlock). allOf blockFits p) (blocks-path (m .wave) (m .preds)) ∙ all-fit (length code) few-words (m .wave .path) blocks-sized;
+        blocks = ap (allOf blockFits) (blocks-path (m .wave) (m .preds)) ∙ all-fit (length code) few-words (m .wave .path) blocks-sized;
       })

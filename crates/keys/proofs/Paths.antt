@@ -41,7 +41,8 @@ path-numbers xs (suc n) h =
     ∙ ap (λ (l : List ℕ). l ++ flatMap sixOf (map blockOf (blockAt xs n ∷ []))) (path-numbers xs n (omega arith))
     ∙ sym (take-block xs n h)
 
-pub block-numbers : (s : State) → blockNumbers * s .hot .depth ≤ length (s .blocks) → flatMap sixOf (blocksOf s) ≡ take (blockNumbers * s .hot .depth) (s .blocks)
+pub block-numbers : (s : State) → blockNumbers * s .hot .depth ≤ length (s .blocks)
+    → flatMap sixOf (blocksOf s) ≡ take (blockNumbers * s .hot .depth) (s .blocks)
 unfolding blocksOf
 block-numbers s h = path-numbers (s .blocks) (s .hot .depth) h
 

@@ -32,7 +32,12 @@ noted-in k j l rest false e = refl
 
 -- each kind is told apart
 told : (k : ℕ) (f : Faults) → lanesIn k (kindsOf f)
-    ≡ cond (eqb 1 k) (f .odd) 0 + (cond (eqb 2 k) (f .device) 0 + (cond (eqb 3 k) (f .local) 0 + (cond (eqb 4 k) (f .divisor) 0 + (cond (eqb 5 k) (f .barrier) 0 + 0))))
+    ≡ cond (eqb 1 k) (f .odd) 0
+    + (cond (eqb 2 k) (f .device) 0
+    + (cond (eqb 3 k) (f .local) 0
+    + (cond (eqb 4 k) (f .divisor) 0
+    + (cond (eqb 5 k) (f .barrier) 0
+    + 0))))
 unfolding kindsOf
 told k f =
     let n5 = note 5 (f .barrier) [] in

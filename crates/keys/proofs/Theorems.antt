@@ -60,7 +60,8 @@ pub record Keyed (kernel : ℕ) (r : Replayed) (n : ℕ) (out : List ℕ) : Type
   pub outcome : r .outcome ≡ Outcome.Fault faults
   pub key : Key (partsOf kernel faults (r .state)) n out
 
-outcome-key : (kernel n : ℕ) (r : Replayed) (now out : List ℕ) (o : Outcome) → r .outcome ≡ o → keyed (Wrote n) now ≡ outcomeKey kernel o (r .state) out → Keyed kernel r n now
+outcome-key : (kernel n : ℕ) (r : Replayed) (now out : List ℕ) (o : Outcome) → r .outcome ≡ o
+    → keyed (Wrote n) now ≡ outcomeKey kernel o (r .state) out → Keyed kernel r n now
 unfolding outcomeKey
 outcome-key kernel n r now out (Outcome.Fault f) h e = record { faults = f; outcome = h; key = body-key (partsOf kernel f (r .state)) n now out e }
 outcome-key kernel n r now out Outcome.Ended h e = absurd (not-written n notOfLayout 0 now out e)

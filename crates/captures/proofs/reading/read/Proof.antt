@@ -17,7 +17,9 @@ enum-told c = search needs
 
 take-parts-requires : tie.Need-take-parts-requires
 unfolding roomsOf
-take-parts-requires c κs = let told = c .before .before .before .before .before in sym (told .before .before .verdict-of .ensures) ∙ told .enum-told .given .1
+take-parts-requires c κs =
+    let told = c .before .before .before .before .before in
+    sym (told .before .before .verdict-of .ensures) ∙ told .enum-told .given .1
 
 head-of-requires : tie.Need-head-of-requires
 head-of-requires c κs = search needs
@@ -49,7 +51,8 @@ unfolding roomsOf
 returns-2 c =
     let words = c .before .before .before .before .before .before .before .before .before .before .before .before in
     let told = words .before .before .before .before .before .before in
-    read-fine _ _ _ (told .before .before .verdict-of .ensures) _ _ _ (told .enum-told .given .1) (words .take-parts .ensures) (c .before .head-of .ensures) (c .counts-of .ensures)
+    read-fine _ _ _ (told .before .before .verdict-of .ensures) _ _ _ (told .enum-told .given .1) (words .take-parts .ensures)
+    (c .before .head-of .ensures) (c .counts-of .ensures)
 
 pub read-spec : {M : Type 1} → statement M
 read-spec =

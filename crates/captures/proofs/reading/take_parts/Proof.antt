@@ -10,30 +10,45 @@ counts-of-requires c κs = search needs
 places-of-requires : tie.Need-places-of-requires
 places-of-requires c κs = search needs
 
+-- from where the words of a part are taken, back to where the places are known
+abbrev from-registers : tie.After-take-words-arg2 → tie.After-places-of
+from-registers z = z .before .before .before .before .before
+
+abbrev from-device : tie.After-take-words-arg3 → tie.After-places-of
+from-device z = from-registers (z .before .before .before .before)
+
+abbrev from-local : tie.After-take-words-arg4 → tie.After-places-of
+from-local z = from-device (z .before .before .before .before)
+
+abbrev from-state : tie.After-take-words-arg5 → tie.After-places-of
+from-state z = from-local (z .before .before .before .before)
+
+-- and to the start
+abbrev start : tie.After-places-of → tie.Start
+start z = z .before .before .before .before .before .before .before .before
+
 take-words-requires : tie.Need-take-words-requires
-take-words-requires c κs =
-    let at = c .before in
-    room-code _ _ (at .before .before .before .before .before .before .before .before .pre) _ (at .before .counts-of .ensures)
+take-words-requires c κs = let at = c .before in room-code _ _ (start at .pre) _ (at .before .counts-of .ensures)
 
 take-words-requires-2 : tie.Need-take-words-requires-2
 take-words-requires-2 c κs =
-    let at = c .before .before .before .before .before in
-    room-registers _ _ (at .before .before .before .before .before .before .before .before .pre) _ (at .before .counts-of .ensures) _ (at .places-of .ensures)
+    let at = from-registers c in
+    room-registers _ _ (start at .pre) _ (at .before .counts-of .ensures) _ (at .places-of .ensures)
 
 take-words-requires-3 : tie.Need-take-words-requires-3
 take-words-requires-3 c κs =
-    let at = c .before .before .before .before .before .before .before .before .before in
-    room-device _ _ (at .before .before .before .before .before .before .before .before .pre) _ (at .before .counts-of .ensures) _ (at .places-of .ensures)
+    let at = from-device c in
+    room-device _ _ (start at .pre) _ (at .before .counts-of .ensures) _ (at .places-of .ensures)
 
 take-words-requires-4 : tie.Need-take-words-requires-4
 take-words-requires-4 c κs =
-    let at = c .before .before .before .before .before .before .before .before .before .before .before .before .before in
-    room-local _ _ (at .before .before .before .before .before .before .before .before .pre) _ (at .before .counts-of .ensures) _ (at .places-of .ensures)
+    let at = from-local c in
+    room-local _ _ (start at .pre) _ (at .before .counts-of .ensures) _ (at .places-of .ensures)
 
 take-words-requires-5 : tie.Need-take-words-requires-5
 take-words-requires-5 c κs =
-    let at = c .before .before .before .before .before .before .before .before .before .before .before .before .before .before .before .before .before in
-    room-state _ _ (at .before .before .before .before .before .before .before .before .pre) _ (at .before .counts-of .ensures) _ (at .places-of .ensures)
+    let at = from-state c in
+    room-state _ _ (start at .pre) _ (at .before .counts-of .ensures) _ (at .places-of .ensures)
 
 same-length : tie.Need-same-length
 same-length c = search needs
@@ -52,13 +67,18 @@ same-length-5 c = search needs
 
 returns : tie.Need-returns
 returns c =
-    let words = c .before .before .before .before .before .before .before .before .before .before .before .before .before .before .before .before .before .before in
-    taken _ _ _ (words .before .before .before .counts-of .ensures) _ (words .before .before .places-of .ensures) _ _ _ _ _
-    (words .take-words .ensures)
-    (c .before .before .before .before .before .before .before .before .before .before .before .before .before .before .take-words2 .ensures)
-    (c .before .before .before .before .before .before .before .before .before .before .take-words3 .ensures)
-    (c .before .before .before .before .before .before .take-words4 .ensures)
-    (c .before .before .take-words5 .ensures)
+    let state = c .before .before in
+    let local = state .before .before .before .before in
+    let device = local .before .before .before .before in
+    let registers = device .before .before .before .before in
+    let code = registers .before .before .before .before in
+    let at = code .before .before in
+    taken _ _ _ (at .before .counts-of .ensures) _ (at .places-of .ensures) _ _ _ _ _
+    (code .take-words .ensures)
+    (registers .take-words2 .ensures)
+    (device .take-words3 .ensures)
+    (local .take-words4 .ensures)
+    (state .take-words5 .ensures)
 
 pub take-parts-spec : {M : Type 1} → statement M
 take-parts-spec =

@@ -35,7 +35,12 @@ cast-t11 : tie.Need-cast-t11
 cast-t11 c = search needs
 
 returns : tie.Need-returns
-returns c = counts-so _ _ _ _ _ _ (c .before .before .before .before .get .ensures) (c .before .before .before .get2 .ensures) (c .before .before .get3 .ensures) (c .before .get4 .ensures) (c .get5 .ensures)
+returns c =
+    let local = c .before in
+    let device = local .before in
+    let registers = device .before in
+    counts-so _ _ _ _ _ _ (registers .before .get .ensures) (registers .get2 .ensures) (device .get3 .ensures)
+    (local .get4 .ensures) (c .get5 .ensures)
 
 pub counts-of-spec : {M : Type 1} → statement M
 counts-of-spec =

@@ -20,7 +20,11 @@ get-requires-5 : tie.Need-get-requires-5
 get-requires-5 c κs = search needs
 
 returns : tie.Need-returns
-returns c = head-so _ _ _ _ _ _ (c .before .before .before .before .get .ensures) (c .before .before .before .get2 .ensures) (c .before .before .get3 .ensures) (c .before .get4 .ensures) (c .get5 .ensures)
+returns c =
+    let lanes = c .before in
+    let registers = lanes .before in
+    let width = registers .before in
+    head-so _ _ _ _ _ _ (width .before .get .ensures) (width .get2 .ensures) (registers .get3 .ensures) (lanes .get4 .ensures) (c .get5 .ensures)
 
 pub head-of-spec : {M : Type 1} → statement M
 head-of-spec =

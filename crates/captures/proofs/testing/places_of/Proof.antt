@@ -73,7 +73,12 @@ add-end c = search needs
 
 returns : tie.Need-returns
 unfolding placesOf
-returns c = places-so _ _ _ _ _ _ (c .before .before .before .before .get .ensures) (c .before .before .before .get2 .ensures) (c .before .before .get3 .ensures) (c .before .get4 .ensures) (c .get5 .ensures)
+returns c =
+    let local = c .before in
+    let device = local .before in
+    let registers = device .before in
+    places-so _ _ _ _ _ _ (registers .before .get .ensures) (registers .get2 .ensures) (device .get3 .ensures)
+    (local .get4 .ensures) (c .get5 .ensures)
 
 pub places-of-spec : {M : Type 1} → statement M
 places-of-spec =

@@ -23,7 +23,11 @@ next-requires-3 : tie.Need-next-requires-3
 next-requires-3 c κs = search needs
 
 returns : tie.Need-returns
-returns c = head-tested _ _ _ _ _ _ (c .before .before .before .before .get .ensures) (c .before .before .before .next .ensures) (c .before .before .get2 .ensures) (c .before .next2 .ensures) (c .next3 .ensures)
+returns c =
+    let edition = c .before in
+    let mark = edition .before .before in
+    head-tested _ _ _ _ _ _ (mark .before .get .ensures) (mark .next .ensures) (edition .before .get2 .ensures)
+    (edition .next2 .ensures) (c .next3 .ensures)
 
 pub test-head-spec : {M : Type 1} → statement M
 test-head-spec =

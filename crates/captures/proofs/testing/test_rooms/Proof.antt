@@ -20,7 +20,13 @@ next-requires-5 : tie.Need-next-requires-5
 next-requires-5 c κs = search needs
 
 returns : tie.Need-returns
-returns c = rooms-tested _ _ _ _ _ _ _ _ (c .before .before .before .before .before .before .before .before .before .before .before .before .next .ensures) (c .before .before .before .before .before .before .before .before .before .next2 .ensures) (c .before .before .before .before .before .before .next3 .ensures) (c .before .before .before .next4 .ensures) (c .next5 .ensures)
+returns c =
+    let local = c .before .before .before in
+    let device = local .before .before .before in
+    let registers = device .before .before .before in
+    let code = registers .before .before .before in
+    rooms-tested _ _ _ _ _ _ _ _ (code .next .ensures) (registers .next2 .ensures) (device .next3 .ensures)
+    (local .next4 .ensures) (c .next5 .ensures)
 
 pub test-rooms-spec : {M : Type 1} → statement M
 test-rooms-spec =

@@ -1,5 +1,8 @@
 -- The tests one after another; a depth that a count of four bytes gives is small.
+use Prim.Native.Nat.{_+_, _<_}
 use native.Mathlib.Omega.{arith}
+use Rattle.numbers.specs.Numbers.{bound}
+use Rattle.captures.specs.Capture.{stateWords}
 use Rattle.captures.proofs.Tested.{depth-small, state-tested}
 use borrow.Author.Needs.{needs}
 use Rattle.captures.proofs.testing.test_state.Statement.{statement}
@@ -17,11 +20,14 @@ depth-of-requires c κs = search needs
 places-of-requires : tie.Need-places-of-requires
 places-of-requires c κs = search needs
 
+small : (z : tie.After-places-of) → stateWords (z .before .depth-of .result) < bound + 7
+small z = depth-small _ _ (z .before .depth-of .ensures) (omega (arith, z .before .before .get .ok))
+
 mul-next : tie.Need-mul-next
-mul-next c = let z = depth-small _ _ (c .before .depth-of .ensures) (omega (arith, c .before .before .get .ok)) in omega arith
+mul-next c = let k = small c in omega arith
 
 add-next : tie.Need-add-next
-add-next c = let z = depth-small _ _ (c .before .depth-of .ensures) (omega (arith, c .before .before .get .ok)) in omega arith
+add-next c = let k = small c in omega arith
 
 next-requires : tie.Need-next-requires
 next-requires c κs = search needs
@@ -49,12 +55,17 @@ next-requires-4 c κs = search needs
 
 returns : tie.Need-returns
 returns c =
-    state-tested _ _ _ _ _ (c .before .before .before .before .before .before .before .before .before .before .get .ensures) (c .before .before .before .before .before .before .before .before .before .depth-of .ensures) (c .before .before .before .before .before .before .before .before .places-of .ensures) _ _ _ _ _ _ _
-    (c .before .before .before .before .before .before .before .next .ensures)
-    (c .before .before .before .before .before .before .get2 .ensures)
-    (c .before .before .before .before .before .next2 .ensures)
-    (c .before .before .before .smaller .ensures)
-    (c .before .before .next3 .ensures)
+    let end = c .before .before in
+    let sixth = end .before .before .before in
+    let shape = sixth .before .before in
+    let at = shape .before in
+    let depth = at .before in
+    state-tested _ _ _ _ _ (depth .before .get .ensures) (depth .depth-of .ensures) (at .places-of .ensures) _ _ _ _ _ _ _
+    (shape .next .ensures)
+    (sixth .before .get2 .ensures)
+    (sixth .next2 .ensures)
+    (end .before .smaller .ensures)
+    (end .next3 .ensures)
     (c .before .get3 .ensures)
     (c .next4 .ensures)
 

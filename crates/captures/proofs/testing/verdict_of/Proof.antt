@@ -17,7 +17,9 @@ test-state-requires : tie.Need-test-state-requires
 test-state-requires c κs = search needs
 
 returns : tie.Need-returns
-returns c = all-tested _ _ _ _ _ _ (c .before .before .before .test-head .ensures) (c .before .before .counts-of .ensures) (c .before .test-rooms .ensures) (c .test-state .ensures)
+returns c =
+    let counts = c .before .before in
+    all-tested _ _ _ _ _ _ (counts .before .test-head .ensures) (counts .counts-of .ensures) (c .before .test-rooms .ensures) (c .test-state .ensures)
 
 pub verdict-of-spec : {M : Type 1} → statement M
 verdict-of-spec =

@@ -1,26 +1,34 @@
 -- Header and words, put one behind another, are the file.
 use mathlib.Core.Path.{refl}
 use native.Mathlib.Omega.{arith}
-use Rattle.captures.specs.Capture.{headerOf}
-use Rattle.captures.proofs.Laid.{fits-known, laid}
+use Rattle.captures.specs.Capture.{Capture, captured, headerOf}
+use Rattle.captures.proofs.Laid.{Fitting, fits-known, laid}
 use borrow.Author.Needs.{needs}
 use Rattle.captures.proofs.writing.give_parts.Statement.{statement}
 use Rattle.captures.proofs.writing.give_parts.Tie as tie
 
+-- the parts that are given
+abbrev parts : tie.Start → Capture
+parts z = let a = z .args in captured (a .head) (a .code .now) (a .registers .now) (a .device .now) (a .local .now) (a .state .now)
+
+-- a file has them
+fitting : (z : tie.After-slice-known) → Fitting (parts (z .before .before .before .before .before .before))
+fitting z = fits-known _ (z .before .before .before .before .before .before .pre)
+
 cast-t14 : tie.Need-cast-t14
-cast-t14 c = let k = fits-known _ (c .before .before .before .before .before .before .pre) .code in omega arith
+cast-t14 c = let k = fitting c .code in omega arith
 
 cast-t16 : tie.Need-cast-t16
-cast-t16 c = let k = fits-known _ (c .before .before .before .before .before .before .pre) .registers in omega arith
+cast-t16 c = let k = fitting c .registers in omega arith
 
 cast-t18 : tie.Need-cast-t18
-cast-t18 c = let k = fits-known _ (c .before .before .before .before .before .before .pre) .device in omega arith
+cast-t18 c = let k = fitting c .device in omega arith
 
 cast-t20 : tie.Need-cast-t20
-cast-t20 c = let k = fits-known _ (c .before .before .before .before .before .before .pre) .local in omega arith
+cast-t20 c = let k = fitting c .local in omega arith
 
 cast-t22 : tie.Need-cast-t22
-cast-t22 c = let k = fits-known _ (c .before .before .before .before .before .before .pre) .state in omega arith
+cast-t22 c = let k = fitting c .state in omega arith
 
 mul-registers-at : tie.Need-mul-registers-at
 mul-registers-at c = search needs
@@ -32,19 +40,19 @@ mul-device-at : tie.Need-mul-device-at
 mul-device-at c = search needs
 
 add-device-at : tie.Need-add-device-at
-add-device-at c = let k = fits-known _ (c .before .before .before .before .before .before .pre) in omega (arith, k .code, k .registers, k .device, k .local)
+add-device-at c = let k = fitting c in omega (arith, k .code, k .registers, k .device, k .local)
 
 mul-local-at : tie.Need-mul-local-at
 mul-local-at c = search needs
 
 add-local-at : tie.Need-add-local-at
-add-local-at c = let k = fits-known _ (c .before .before .before .before .before .before .pre) in omega (arith, k .code, k .registers, k .device, k .local)
+add-local-at c = let k = fitting c in omega (arith, k .code, k .registers, k .device, k .local)
 
 mul-state-at : tie.Need-mul-state-at
 mul-state-at c = search needs
 
 add-state-at : tie.Need-add-state-at
-add-state-at c = let k = fits-known _ (c .before .before .before .before .before .before .pre) in omega (arith, k .code, k .registers, k .device, k .local)
+add-state-at c = let k = fitting c in omega (arith, k .code, k .registers, k .device, k .local)
 
 slice-aggregate-give-words : tie.Need-slice-aggregate-give-words
 slice-aggregate-give-words c = search needs
@@ -73,13 +81,19 @@ same-length c = search needs
 returns : tie.Need-returns
 unfolding headerOf
 returns c =
+    let state = c .before .before in
+    let local = state .before .before .before .before in
+    let device = local .before .before .before .before in
+    let registers = device .before .before .before .before in
+    let code = registers .before .before .before .before in
+    let header = code .before .before .before .before in
     laid _ _ _ _ _ _ _ _ _ _ _ _ refl refl refl refl
-    (c .before .before .before .before .before .before .before .before .before .before .before .before .before .before .before .before .before .before .before .before .before .before .give-words .ensures)
-    (c .before .before .before .before .before .before .before .before .before .before .before .before .before .before .before .before .before .before .give-words2 .ensures)
-    (c .before .before .before .before .before .before .before .before .before .before .before .before .before .before .give-words3 .ensures)
-    (c .before .before .before .before .before .before .before .before .before .before .give-words4 .ensures)
-    (c .before .before .before .before .before .before .give-words5 .ensures)
-    (c .before .before .give-words6 .ensures)
+    (header .give-words .ensures)
+    (code .give-words2 .ensures)
+    (registers .give-words3 .ensures)
+    (device .give-words4 .ensures)
+    (local .give-words5 .ensures)
+    (state .give-words6 .ensures)
 
 pub give-parts-spec : {M : Type 1} → statement M
 give-parts-spec =

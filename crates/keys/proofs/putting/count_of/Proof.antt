@@ -33,7 +33,12 @@ add-result-4 c = search needs
 
 returns : tie.Need-returns
 returns c =
-    count-kinds (c .before .before .before .before .before .args .f) _ _ _ _ _ (c .before .before .before .before .kinds-of .ensures .0) (c .before .before .before .kinds-of2 .ensures .0) (c .before .before .kinds-of3 .ensures .0) (c .before .kinds-of4 .ensures .0) (c .kinds-of5 .ensures .0)
+    let divisor = c .before in
+    let local = divisor .before in
+    let device = local .before in
+    let odd = device .before in
+    count-kinds (odd .before .args .f) _ _ _ _ _ (odd .kinds-of .ensures .0) (device .kinds-of2 .ensures .0)
+    (local .kinds-of3 .ensures .0) (divisor .kinds-of4 .ensures .0) (c .kinds-of5 .ensures .0)
 
 pub count-of-spec : {M : Type 1} → statement M
 count-of-spec =

@@ -24,7 +24,10 @@ same-length : tie.Need-same-length
 same-length c = search needs
 
 returns-2 : tie.Need-returns-2
-returns-2 c = (some-kind _ _ _ _ _ _ (c .before .before .before .before .before .before .before .before .if1 .left) (c .before .before .before .before .before .before .put .ensures) (c .before .before .put2 .ensures), small-noted _ _ (omega arith) (omega arith))
+returns-2 c =
+    let lanes = c .before .before in
+    let kind = lanes .before .before .before .before in
+    (some-kind _ _ _ _ _ _ (kind .before .before .if1 .left) (kind .put .ensures) (lanes .put2 .ensures), small-noted _ _ (omega arith) (omega arith))
 
 pub put-kind-spec : {M : Type 1} → statement M
 put-kind-spec =

@@ -30,26 +30,34 @@ put-requires : tie.Need-put-requires Inv-loop μ-loop
 put-requires c κs = search needs
 
 add-q : tie.Need-add-q Inv-loop μ-loop
-add-q c = let i = c .before .before .before .before .before .before .loop .inv in let p = c .before .before .before .before .before .before .before .before .before .pre in omega (arith, i .0, i .1)
+add-q c =
+    let z = c .before .before .before .before .before .before in
+    omega (arith, z .loop .inv .0, z .loop .inv .1, z .before .before .before .pre)
 
 add-k : tie.Need-add-k Inv-loop μ-loop
-add-k c = let i = c .before .before .before .before .before .before .loop .inv in let p = c .before .before .before .before .before .before .before .before .before .pre in omega (arith, i .0, i .1)
+add-k c =
+    let z = c .before .before .before .before .before .before in
+    omega (arith, z .loop .inv .0, z .loop .inv .1, z .before .before .before .pre)
 
 loop-less : tie.Need-loop-less Inv-loop μ-loop
 loop-less c = omega (arith, c .before .before .before .before .before .loop-test .taken)
 
 loop-again : tie.Need-loop-again Inv-loop μ-loop
 loop-again c =
-    let l = c .before .before .before .before .before .before .loop in
-    let t = c .before .before .before .before .before .loop-test .taken in
-    (omega (arith, t), omega (arith, l .inv .1), c .before .before .put .kept .0 ∙ l .inv .2, put-more _ _ _ _ _ _ _ t (l .inv .1) (l .inv .3) (c .before .before .put .ensures))
+    let put = c .before .before in
+    let test = put .before .before .before in
+    let t = test .loop-test .taken in
+    let i = test .before .loop .inv in
+    (omega (arith, t), omega (arith, i .1), put .put .kept .0 ∙ i .2, put-more _ _ _ _ _ _ _ t (i .1) (i .3) (put .put .ensures))
 
 same-length : tie.Need-same-length Inv-loop μ-loop
 same-length c = c .before .loop .inv .2
 
 returns : tie.Need-returns Inv-loop μ-loop
 returns c =
-    (put-all _ _ _ _ _ (c .loop-test .left) (c .before .loop .inv .3), record { below = λ i. let z = c .before .before .before .shared-slice-known .given i in omega arith })
+    let z = c .before in
+    let words = z .before .before .shared-slice-known .given in
+    (put-all _ _ _ _ _ (c .loop-test .left) (z .loop .inv .3), record { below = λ i. let w = words i in omega arith })
 
 pub put-numbers-spec : {M : Type 1} → statement M
 put-numbers-spec =

@@ -37,22 +37,26 @@ mul-open c = search needs
 array-share-prefix-blocks : tie.Need-array-share-prefix-blocks
 array-share-prefix-blocks c = search needs
 
+-- from where the blocks are lent, back to where the array's length is known, and to the start
+abbrev known : tie.After-blocks4 → tie.After-whole
+known z = z .before .before .before .before .before .before .before .before .before .before .before .before .before .before
+
+abbrev start : tie.After-whole → tie.Start
+start z = z .before .before .before .before .before
+
 -- as many numbers are lent as the open blocks have
-lent : (z : tie.After-whole)
-    → length (take (blockNumbers * z .before .before .before .before .before .args .state .hot .depth) (z .before .before .before .before .before .args .state .blocks))
-    ≡ blockNumbers * z .before .before .before .before .before .args .state .hot .depth
-lent z = length-take-le _ _ (omega (arith, z .whole .ensures, z .before .before .before .before .before .pre .0))
+lent : (z : tie.After-whole) → let s = start z .args .state in
+    length (take (blockNumbers * s .hot .depth) (s .blocks)) ≡ blockNumbers * s .hot .depth
+lent z = length-take-le _ _ (omega (arith, z .whole .ensures, start z .pre .0))
 
 slice-aggregate-put-numbers : tie.Need-slice-aggregate-put-numbers
-slice-aggregate-put-numbers c = sym (lent (c .before .before .before .before .before .before .before .before .before .before .before .before .before .before))
+slice-aggregate-put-numbers c = sym (lent (known c))
 
 add-put-numbers : tie.Need-add-put-numbers
 add-put-numbers c = search needs
 
 put-numbers-requires : tie.Need-put-numbers-requires
-put-numbers-requires c κs =
-    let w = c .before .before .before .before .before .before .before .before .before .before .before .before .before .before .before in
-    omega (arith, lent w, w .before .before .before .before .before .pre .0, w .before .before .before .before .before .pre .1)
+put-numbers-requires c κs = let w = known (c .before) in omega (arith, lent w, start w .pre .0, start w .pre .1)
 
 same-length : tie.Need-same-length
 same-length c = search needs
@@ -60,15 +64,15 @@ same-length c = search needs
 returns : tie.Need-returns
 returns c =
     let blocks = c .before .before .put-numbers .ensures in
-    let known = c .before .before .before .before .before .struct-known .given in
+    let sets = c .before .before .before .before .before .struct-known .given in
     let third = c .before .before .before .before .before .before .before .before in
     let second = third .before .before .before .before in
     let one = second .before .before .before .before in
     let w = one .before .before in
-    let start = w .before .before .before .before .before in
-    let s = start .args .state in (
-      state-stands s (start .pre .0) (w .whole .ensures) _ _ _ _ _ _ (one .put .ensures) (second .put2 .ensures) (third .put3 .ensures) (blocks .0),
-      state-small s (start .pre .0) (w .whole .ensures) (omega (arith, known .1 .0)) (omega (arith, known .1 .1 .0)) (blocks .1),
+    let s = start w .args .state in
+    let low = start w .pre .0 in (
+      state-stands s low (w .whole .ensures) _ _ _ _ _ _ (one .put .ensures) (second .put2 .ensures) (third .put3 .ensures) (blocks .0),
+      state-small s low (w .whole .ensures) (omega (arith, sets .1 .0)) (omega (arith, sets .1 .1 .0)) (blocks .1),
     )
 
 pub put-state-spec : {M : Type 1} → statement M

@@ -1,5 +1,7 @@
 -- By what the length's test answers, and then by the room.
-use mathlib.Core.Path.{sym, _∙_}
+use mathlib.Core.Path.{_≡_, sym, _∙_}
+use Rattle.key.specs.declared.BodyAnswer.the-variants.{Length}
+use Rattle.key.specs.Layout.{bodyAnswer}
 use Rattle.keys.proofs.Bodies.{copy-none, copy-short, copy-long, copy-so}
 use borrow.Author.Needs.{needs}
 use Rattle.keys.proofs.writing.copy_body.Statement.{statement}
@@ -14,14 +16,18 @@ enum-known-size c = search needs
 enum-told : tie.Need-enum-told
 enum-told c = search needs
 
+-- the length that was answered
+answered : (z : tie.After-size) → Length (z .size .given .0 .0) ≡ bodyAnswer (z .before .before .before .before .before .args .bytes .now) 0
+answered z = sym (z .size .given .1) ∙ z .before .before .body-length .ensures
+
 returns : tie.Need-returns
 returns c = copy-none _ _ _ _ (sym (c .enum-told .given .1) ∙ c .before .before .body-length .ensures)
 
 returns-2 : tie.Need-returns-2
-returns-2 c = copy-short _ _ _ (sym (c .before .before .size .given .1) ∙ c .before .before .before .before .body-length .ensures) (c .if1 .taken)
+returns-2 c = copy-short _ _ _ (answered (c .before .before)) (c .if1 .taken)
 
 slice-aggregate-put-bytes : tie.Need-slice-aggregate-put-bytes
-slice-aggregate-put-bytes c = copy-long _ _ (sym (c .before .before .before .before .size .given .1) ∙ c .before .before .before .before .before .before .body-length .ensures)
+slice-aggregate-put-bytes c = copy-long _ _ (answered (c .before .before .before .before))
 
 put-bytes-requires : tie.Need-put-bytes-requires
 put-bytes-requires c κs = search needs
@@ -30,7 +36,9 @@ same-length : tie.Need-same-length
 same-length c = search needs
 
 returns-3 : tie.Need-returns-3
-returns-3 c = copy-so _ _ _ _ (sym (c .before .before .before .before .before .before .before .size .given .1) ∙ c .before .before .before .before .before .before .before .before .before .body-length .ensures) (c .before .before .before .before .before .if1 .left) (c .before .before .put-bytes .ensures)
+returns-3 c =
+    let room = c .before .before .before .before .before in
+    copy-so _ _ _ _ (answered (room .before .before)) (room .if1 .left) (c .before .before .put-bytes .ensures)
 
 pub copy-body-spec : {M : Type 1} → statement M
 copy-body-spec =

@@ -26,7 +26,9 @@ same-length c = search needs
 
 returns-2 : tie.Need-returns-2
 returns-2 c =
-    c .before .before .copy-body .ensures ∙ copy-put _ _ _ (c .before .before .before .before .before .before .put-body .ensures) (body-room _ _ _ (omega (arith, c .before .before .before .before .before .before .before .before .if1 .left))) _
+    let copy = c .before .before in
+    let put = copy .before .before .before .before in
+    copy .copy-body .ensures ∙ copy-put _ _ _ (put .put-body .ensures) (body-room _ _ _ (omega (arith, put .before .before .if1 .left))) _
 
 pub write-fault-spec : {M : Type 1} → statement M
 write-fault-spec =

@@ -24,7 +24,10 @@ same-length : tie.Need-same-length
 same-length c = search needs
 
 returns : tie.Need-returns
-returns c = c .before .before .write-fault .ensures ∙ key-fault _ (c .before .before .before .before .before .before .before .before .before .args .answer) _ _ (c .before .before .before .before .before .outcome .given .1)
+returns c =
+    let fault = c .before .before in
+    let told = fault .before .before .before in
+    fault .write-fault .ensures ∙ key-fault _ (told .before .before .before .before .args .answer) _ _ (told .outcome .given .1)
 
 returns-2 : tie.Need-returns-2
 returns-2 c = key-ended _ (c .before .before .before .before .args .answer) _ (c .enum-told .given .1)
