@@ -12,8 +12,10 @@ mod two_operands;
 
 ghost use mathlib.Core.Path.{_≡_};
 ghost use mathlib.Core.Bool.{true};
+ghost use Prim.Native.Nat.{ℕ};
+ghost use Rattle.words.specs.declared.instr.CompareOp.{CompareOp};
 ghost use Rattle.compute.specs.Operands.{lent, operandsOf};
-ghost use Rattle.compute.specs.Carrying.{carried, inShape, havingRead, carriedOf};
+ghost use Rattle.compute.specs.Carrying.{outcome, carried, inShape, havingRead, carriedOf};
 use crate::classes::carry_change;
 use crate::classes::carry_load;
 use crate::classes::carry_store;
@@ -85,7 +87,7 @@ fn in_shape(shape: Shape, x: Instr, regs: &[u32]) -> bool
     (shape.width <= WIDEST) & registers_below(x, shape.registers) & (room <= regs.len())
 }
 
-// An instruction in shape, by its class.
+// An instruction in shape: a comparison leaves a predicate, and every other one leaves the predicate as it was.
 fn carry(
     x: Instr,
     t: Lanes,
@@ -98,58 +100,50 @@ fn carry(
     requires { ⌜ inShape shape x (now regs) ≡ true ⌝ }
     ensures { λ r. ⌜ carried r (now (regs .exit)) (now (device .exit)) (now (local .exit)) ≡ havingRead shape x t (operandsOf shape x (now (regs .entry))) (lent predicate (now (regs .entry)) (now (device .entry)) (now (local .entry))) ⌝ }
 {
+    let op = x.op;
+    let Op::Compare(o) = op else {
+        let faults = carry_class(x, t, shape, regs, device, local);
+        return Carried { faults, predicate };
+    };
+    let results = compare_results(o, shape, regs, x.rs1, x.rs2);
+    Carried {
+        faults: no_faults(),
+        predicate: predicate_after(results, t, predicate, shape.width),
+    }
+}
+
+// Any other instruction in shape than a comparison, by its class.
+fn carry_class(
+    x: Instr,
+    t: Lanes,
+    shape: Shape,
+    regs: &mut [u32],
+    device: &mut [u32],
+    local: &mut [u32],
+) -> Faults
+    requires { ⌜ (inShape shape x (now regs) ≡ true) × ((o : CompareOp) → x .op ≡ Op.Compare o → ⊥) ⌝ }
+    ensures { λ r. ⌜ ((p : ℕ) → outcome r (lent p (now (regs .exit)) (now (device .exit)) (now (local .exit))) ≡ havingRead shape x t (operandsOf shape x (now (regs .entry))) (lent p (now (regs .entry)) (now (device .entry)) (now (local .entry)))) ⌝ }
+{
     let width = shape.width;
     let rd = x.rd;
     let rs1 = x.rs1;
     let rs2 = x.rs2;
     let rs3 = x.rs3;
-    let number = x.number;
+    let n = x.number;
     let op = x.op;
     match op {
-        Op::Two(o) => Carried {
-            faults: carry_two(o, t, rd, rs1, rs2, shape, regs),
-            predicate,
-        },
-        Op::Compare(o) => Carried {
-            faults: no_faults(),
-            predicate: predicate_after(
-                compare_results(o, shape, regs, rs1, rs2),
-                t,
-                predicate,
-                width,
-            ),
-        },
-        Op::One(o) => Carried {
-            faults: carry_value(one_results(o, shape, regs, rs1), t, rd, shape, regs),
-            predicate,
-        },
-        Op::Special => Carried {
-            faults: carry_value(special_results(rs1, width), t, rd, shape, regs),
-            predicate,
-        },
-        Op::Number => Carried {
-            faults: carry_value(number_results(number, width), t, rd, shape, regs),
-            predicate,
-        },
-        Op::Load(space) => Carried {
-            faults: carry_load(space, t, rd, rs1, number, shape, regs, device, local),
-            predicate,
-        },
-        Op::Store(space) => Carried {
-            faults: carry_store(space, t, rd, rs1, number, shape, regs, device, local),
-            predicate,
-        },
-        Op::Atomic(o) => Carried {
-            faults: carry_change(Change::Atomic(o), t, rd, rs1, rs2, rs2, shape, regs, device),
-            predicate,
-        },
-        Op::Cas => Carried {
-            faults: carry_change(Change::Swap, t, rd, rs1, rs2, rs3, shape, regs, device),
-            predicate,
-        },
-        Op::Control(_) => Carried {
-            faults: no_faults(),
-            predicate,
-        },
+        Op::Two(o) => carry_two(o, t, rd, rs1, rs2, shape, regs),
+        Op::Compare(_) => no_faults(),
+        Op::One(o) => carry_value(one_results(o, shape, regs, rs1), t, rd, shape, regs),
+        Op::Special => carry_value(special_results(rs1, width), t, rd, shape, regs),
+        Op::Number => carry_value(number_results(n, width), t, rd, shape, regs),
+        Op::Load(space) => carry_load(space, t, rd, rs1, n, shape, regs, device, local),
+        Op::Store(space) => carry_store(space, t, rd, rs1, n, shape, regs, device, local),
+        Op::Atomic(o) => {
+            let change = Change::Atomic(o);
+            carry_change(change, t, rd, rs1, rs2, rs2, shape, regs, device)
+        }
+        Op::Cas => carry_change(Change::Swap, t, rd, rs1, rs2, rs3, shape, regs, device),
+        Op::Control(_) => no_faults(),
     }
 }
