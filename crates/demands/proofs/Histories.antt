@@ -5,12 +5,10 @@ use mathlib.Core.List.{List, [], _∷_}
 use Prim.Native.Nat.{ℕ, _≤_}
 use borrow.Author.Tests.{leb-true}
 use lib.ListN.{length}
-use Rattle.blocks.specs.declared.structure.Checked.{Checked}
 use Rattle.blocks.specs.declared.structure.Checked.the-variants.{Fine}
 use Rattle.wave.specs.declared.state.Block.{Block}
 use Rattle.wave.specs.declared.state.State.{State}
 use Rattle.wave.specs.Wave.{Wave, stateOf, waveIn}
-use Rattle.wave.specs.FitsTest.{fitsTest}
 use Rattle.wave.proofs.View.{wave-in}
 use Rattle.wave.proofs.Stays.{path-room}
 use Rattle.compute.specs.declared.Faults.{Faults}
@@ -20,25 +18,11 @@ use Rattle.replay.specs.declared.answers.Outcome.the-variants.{Ended, Fault}
 use Rattle.replay.specs.Machine.{Machine}
 use Rattle.replay.specs.Step.{stepOf}
 use Rattle.replay.specs.Run.{runOf}
-use Rattle.replay.specs.Replay.{mostWords, mostSteps, unless, launchTest, resumeTest, Answered, ending, launchMachine, stateMachine}
+use Rattle.replay.specs.Replay.{mostWords, mostSteps, launchTest, resumeTest, Answered, ending, launchMachine, stateMachine}
 use Rattle.replay.specs.Calls.{budgeted, resumedWith}
 use Rattle.replay.proofs.Keeping.{run-keeps, run-long}
 use Rattle.replay.proofs.Stopping.{FaultsAt, run-stops}
-use Rattle.replay.proofs.Returns.{
-  Launchable,
-  launchable,
-  right-length,
-  then-first,
-  then-second,
-  unless-true,
-  InOrder,
-  launch-in-order,
-  given-in-order,
-  in-order-resumes,
-  launched,
-  resumed,
-  state-machine,
-}
+use Rattle.replay.proofs.Returns.{Launchable, launchable, right-length, InOrder, launch-in-order, given-in-order, in-order-resumes, launched, resumed, state-machine, resumable}
 use Rattle.demands.specs.Steps.{Step, stepsOf}
 use Rattle.demands.specs.Path.{pathFrom}
 use Rattle.demands.specs.History.{
@@ -164,14 +148,11 @@ module _ (s : Settings) (code regs device local : List ℕ) (budgets : List ℕ)
 
   resume-held : (state : State) → resumeTest s state code regs ≡ Fine → Held (calls (fromState state))
   resume-held state e =
-      let fitting : Checked = unless (fitsTest code (s .registers) (s .lanes) (state .hot) (state .blocks)) 11 in
-      let first-tests : launchTest s code regs ≡ Fine = then-first (launchTest s code regs) fitting e in
-      let l = launchable s (s .budget) code regs first-tests in
+      let q = resumable s state code regs e in
+      let l = launchable s (s .budget) code regs (q .launches) in
       let m : Machine = stateMachine state regs device local in
       let bs : List Block = waveIn state .path in
-      let o : InOrder s code l m =
-      given-in-order s code l state regs device local (right-length s code regs first-tests)
-      (unless-true (fitsTest code (s .registers) (s .lanes) (state .hot) (state .blocks)) 11 (then-second (launchTest s code regs) fitting e)) in
+      let o : InOrder s code l m = given-in-order s code l state regs device local (right-length s code regs (q .launches)) (q .fits) in
       let start : Holds s code l bs (afterResume s state code regs device local) =
       subst (λ (x : Answered). Holds s code l bs (record { answer = x; steps = stepsOf s code (s .budget) m [] }))
       (sym (resumed s code regs device local state e)) (run-holds s code l bs (s .budget) m [] o (told-none (m .wave))) in
