@@ -100,7 +100,7 @@ stopped Item.Endloop (open-at after p ∷ o) at l = (8, refl, stray-endloop (oth
 stopped Item.Endloop (open-at looping p ∷ o) at l = tt
 stopped (Item.Bad n) o at l = (n, refl, own)
 
-same-rule : (m n p q : ℕ) → Refused m p ≡ Refused n q → (m ≡ n) × (p ≡ q)
+pub same-rule : (m n p q : ℕ) → Refused m p ≡ Refused n q → (m ≡ n) × (p ≡ q)
 same-rule m n p q e = (cc, cc)
 
 module _ (code : Code) (fits : Fits code) (n p : ℕ) where

@@ -1,3 +1,4 @@
+pub mod Allowing
 pub mod Runs
 pub mod Turns
 pub mod Adding
@@ -6,6 +7,7 @@ pub mod Stopping
 pub mod FaultKinds
 pub mod Returns
 pub mod Refusing
+pub mod Breaking
 pub mod Naming
 pub mod Stepping
 pub mod Entering

@@ -1,7 +1,7 @@
 -- What a launch or a resume answers can be handed in again: its state fits. And a run of a + b steps is a run of a, and, where that
 -- stopped for want of budget, a resume of b from what it answered.
 use mathlib.Core.Path.{_≡_, refl, sym, ap, _∙_, subst}
-use mathlib.Core.Bool.{Bool, true, false, _&&_, _||_}
+use mathlib.Core.Bool.{Bool, true, false, _||_}
 use mathlib.Core.Logic.{⊎-elim}
 use mathlib.Core.List.{List}
 use Prim.Native.Nat.{ℕ, zero, suc, _+_, _*_, _≤_}
@@ -10,7 +10,6 @@ use native.Mathlib.Omega.{arith}
 use borrow.Author.Tests.{eqb-true, eq-eqb, leb-true, le-leb}
 use lib.Dec.{eqb, leb}
 use lib.ListN.{length}
-use Rattle.ground.proofs.Bools.{and-left, and-right}
 use Rattle.ground.proofs.Tests.{or-cases}
 use Rattle.lanes.specs.Sets.{widest}
 use Rattle.blocks.specs.declared.structure.Checked.{Checked}
@@ -52,6 +51,7 @@ use Rattle.replay.specs.Replay.{
   resumeOf,
 }
 use Rattle.replay.specs.Calls.{budgeted, resumedWith, added}
+use Rattle.replay.proofs.Allowing.{among-width, right-allowed}
 use Rattle.replay.proofs.Adding.{following, runs-add}
 use Rattle.replay.proofs.Keeping.{run-keeps, run-long}
 
@@ -84,22 +84,13 @@ launchable s b code regs e =
     let rest : Checked = thenTest (unless (leb (length code) mostWords) 2) (unless (eqb (length regs) (s .width * s .registers)) 3) in
     let right : settingsRight (budgeted b s) ≡ true =
     unless-true (settingsRight (budgeted b s)) 1 (then-first (unless (settingsRight (budgeted b s)) 1) rest t1) in
-    let c0 : Bool = (eqb (s .width) 8 || eqb (s .width) 16 || eqb (s .width) 32) in
-    let c1 : Bool = leb 1 (s .registers) in
-    let c2 : Bool = leb (s .registers) mostRegisters in
-    let c3 : Bool = leb 1 (s .lanes) in
-    let c4 : Bool = leb (s .lanes) (s .width) in
-    let c5 : Bool = leb b mostSteps in
-    let r4 : (c0 && c1 && c2 && c3 && c4) ≡ true = and-left (c0 && c1 && c2 && c3 && c4) c5 right in
-    let r3 : (c0 && c1 && c2 && c3) ≡ true = and-left (c0 && c1 && c2 && c3) c4 r4 in
-    let r2 : (c0 && c1 && c2) ≡ true = and-left (c0 && c1 && c2) c3 r3 in
-    let r1 : (c0 && c1) ≡ true = and-left (c0 && c1) c2 r2 in
+    let a = right-allowed (budgeted b s) right in
     record {
-      widths = and-left c0 c1 r1;
-      some-register = and-right c0 c1 r1;
-      few-registers = and-right (c0 && c1) c2 r2;
-      some-lane = and-right (c0 && c1 && c2) c3 r3;
-      few-lanes = and-right (c0 && c1 && c2 && c3) c4 r4;
+      widths = among-width (s .width) (a .width);
+      some-register = le-leb 1 (s .registers) (a .registers .0);
+      few-registers = le-leb (s .registers) mostRegisters (a .registers .1);
+      some-lane = le-leb 1 (s .lanes) (a .lanes .0);
+      few-lanes = le-leb (s .lanes) (s .width) (a .lanes .1);
       short =
           unless-true (leb (length code) mostWords) 2
           (then-first (unless (leb (length code) mostWords) 2) (unless (eqb (length regs) (s .width * s .registers)) 3)
