@@ -1,4 +1,6 @@
 pub mod Items
+mod Fields
+pub mod Alone
 pub mod Widths
 pub mod Passes
 mod Judging

@@ -9,5 +9,6 @@ pub mod Reaching
 pub mod Standing
 pub mod Arms
 pub mod Carrying
+pub mod LaneByLane
 pub mod FaultLanes
 pub mod OneAnswer

@@ -6,3 +6,4 @@ pub mod Faulting
 pub mod Carrying
 pub mod Lanewise
 pub mod Classes
+pub mod Results

@@ -6,4 +6,5 @@ pub mod Paths
 pub mod Bodies
 pub mod Faulting
 pub mod Theorems
+pub mod Breaking
 pub mod OneAnswer

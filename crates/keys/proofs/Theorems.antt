@@ -9,6 +9,7 @@ use borrow.Author.Tests.{leb-true}
 use lib.Dec.{leb}
 use lib.ListN.{length, take, drop}
 use lib.Seq.{take-append-seam}
+use Rattle.ground.proofs.Choices.{cond-by}
 use Rattle.ground.proofs.Tests.{true-or-false}
 use Rattle.numbers.specs.Numbers.{Small}
 use Rattle.numbers.specs.Placed.{placed}
@@ -72,6 +73,34 @@ outcome-key kernel n r now out (Outcome.Refused number place) h e = absurd (not-
 pub key-written : (kernel n : ℕ) (r : Replayed) (now out : List ℕ) → keyed (Wrote n) now ≡ keyOf kernel r out → Keyed kernel r n now
 unfolding keyOf
 key-written kernel n r now out e = outcome-key kernel n r now out (r .outcome) refl e
+
+-- ---- what was not
+
+refused-wrote : (k n p : ℕ) → Wrote k ≡ Refused n p → ⊥
+refused-wrote k n p e = let z : _≡_ {A = ℕ} 0 1 = cc in omega arith
+
+module _ (n q : ℕ) (out : List ℕ) where
+  body-keeps : (p : Parts) → bodyKey p out .answer ≡ Refused n q → bodyKey p out .out ≡ out
+  unfolding bodyKey
+  body-keeps p =
+      cond-by (λ (k : Keying). k .answer ≡ Refused n q → k .out ≡ out) (fitsLayout p) _ _
+      (λ t.
+      cond-by (λ (k : Keying). k .answer ≡ Refused n q → k .out ≡ out) (leb (length (bytesOfBody p)) (length out)) _ _
+      (λ u e. absurd (refused-wrote (length (bytesOfBody p)) n q e))
+      (λ u e. refl))
+      (λ t e. refl)
+
+  outcome-keeps : (kernel : ℕ) (o : Outcome) (s : State) → outcomeKey kernel o s out .answer ≡ Refused n q → outcomeKey kernel o s out .out ≡ out
+  unfolding outcomeKey
+  outcome-keeps kernel (Outcome.Fault f) s e = body-keeps (partsOf kernel f s) e
+  outcome-keeps kernel Outcome.Ended s e = refl
+  outcome-keeps kernel Outcome.OutOfBudget s e = refl
+  outcome-keeps kernel (Outcome.Refused k p) s e = refl
+
+  -- THEOREM: a refusal leaves the output as lent
+  pub refused-keeps : (kernel : ℕ) (r : Replayed) → keyOf kernel r out .answer ≡ Refused n q → keyOf kernel r out .out ≡ out
+  unfolding keyOf
+  refused-keeps kernel r e = outcome-keeps kernel (r .outcome) (r .state) e
 
 -- THEOREM: what was written, of numbers below 2^32, is a body of the layout
 pub key-is-body : (p : Parts) (n : ℕ) (out : List ℕ) → Small (numbersOf p) → Key p n out → isBody (take n out) ≡ true

@@ -1,2 +1,3 @@
 pub mod Key
 pub mod Putting
+pub mod Refusals

@@ -1,8 +1,9 @@
--- The marked table, T1 to T14: one list of cases, what each gives and what the page says of it.
+-- The marked table, T1 to T14: one list of cases, and what the page says of each.
+use mathlib.Core.Path.{_≡_}
 use mathlib.Core.Bool.{Bool, true, false}
 use mathlib.Core.List.{List, [], _∷_}
-use Prim.Native.Nat.{ℕ, _*_}
-use lib.ListN.{replicate, getD}
+use Prim.Native.Nat.{ℕ, suc, _*_, _≤_}
+use lib.ListN.{length, getD, take}
 use Rattle.words.specs.declared.instr.TwoOp.{TwoOp}
 use Rattle.words.specs.declared.instr.ControlOp.{ControlOp}
 use Rattle.words.specs.declared.instr.Op.{Op}
@@ -15,19 +16,21 @@ use Rattle.compute.specs.Registers.{slot}
 use Rattle.replay.specs.declared.settings.Settings.{Settings}
 use Rattle.replay.specs.declared.answers.Outcome.{Outcome}
 use Rattle.replay.specs.Replay.{Answered, mostSteps, launchOf}
-use Rattle.key.specs.Body.{numbersOf}
-use Rattle.keys.specs.Key.{partsOf}
+use Rattle.numbers.specs.Numbers.{bytesOfAll}
+use Rattle.key.specs.Layout.{longest}
+use Rattle.keys.specs.declared.answer.KeyAnswer.{KeyAnswer}
+use Rattle.keys.specs.declared.answer.KeyAnswer.the-variants.{Wrote, Refused}
+use Rattle.keys.specs.Key.{Keying, keyOf}
 
 -- words to be read; an operation on two numbers; an address of a base and an offset; a launch of so many lanes of a width, with so many
--- registers, all 0, no memory and the largest budget
+-- registers
 pub data Case : Type 0 where
   reading : List ℕ → Case
   operation : TwoOp → ℕ → ℕ → Case
   address : ℕ → ℕ → Case
   launching : ℕ → ℕ → ℕ → List ℕ → Case
 
--- of a run that ends: its steps, register 1 of the launched lanes, the halted lanes; of one that faults: its steps, and the numbers of
--- kernel 7's body
+-- of a run that ends: its steps, register 1 of the launched lanes, the halted lanes; of one that faults: its steps, and kernel 7's key
 pub data Answer : Type 0 where
   read : ReadAnswer → Answer
   value : ℕ → Answer
@@ -35,24 +38,54 @@ pub data Answer : Type 0 where
   faulted : ℕ → List ℕ → Answer
   stopped : Answer
 
-abbrev settings : ℕ → ℕ → ℕ → Settings
-settings width lanes registers = record { width = width; registers = registers; lanes = lanes; budget = mostSteps }
+-- the least budget of a launch that comes to its answer: the steps, and one more for an instruction that faults
+abbrev pub least : Answer → ℕ
+least (ended steps r1 halted) = steps
+least (faulted steps key) = suc steps
+least (read r) = 0
+least (value v) = 0
+least stopped = 0
 
-abbrev ran : Outcome → ℕ → ℕ → ℕ → Answered → Answer
-ran Outcome.Ended W n R a = ended (a .steps) (tabulate n (λ i. getD (a .regs) (slot W R i 1) 0)) (a .state .hot .halted)
-ran (Outcome.Fault f) W n R a = faulted (a .steps) (numbersOf (partsOf 7 f (a .state)))
-ran Outcome.OutOfBudget W n R a = stopped
-ran (Outcome.Refused number place) W n R a = stopped
+-- what the page leaves open of a launch: the registers, W×R of them, the memories, the budget, and the room that the key is written to
+pub record Open (W R steps : ℕ) : Type 0 where
+  pub regs : List ℕ
+  pub device : List ℕ
+  pub local : List ℕ
+  pub budget : ℕ
+  pub room : List ℕ
+  pub whole : length regs ≡ W * R
+  pub enough : steps ≤ budget
+  pub allowed : budget ≤ mostSteps
+  pub roomy : longest ≤ length room
 
-abbrev launched : ℕ → ℕ → ℕ → Answered → Answer
-launched W n R a = ran (a .outcome) W n R a
+abbrev pub settings : ℕ → ℕ → ℕ → ℕ → Settings
+settings width lanes registers budget = record { width = width; registers = registers; lanes = lanes; budget = budget }
 
--- what the definitions give
-abbrev pub gives : Case → Answer
-gives (reading words) = read (readAt words 0)
-gives (operation op a b) = value (twoOf op a b)
-gives (address base offset) = value (addressOf base offset)
-gives (launching W n R words) = launched W n R (launchOf (settings W n R) words (replicate (W * R) 0) [] [])
+-- the key that was written: so many bytes of the room
+abbrev pub bytesIn : KeyAnswer → List ℕ → List ℕ
+bytesIn (Wrote n) out = take n out
+bytesIn (Refused number place) out = []
+
+abbrev pub written : Keying → List ℕ
+written k = bytesIn (k .answer) (k .out)
+
+abbrev pub ran : Outcome → ℕ → ℕ → ℕ → List ℕ → Answered → Answer
+ran Outcome.Ended W n R room a = ended (a .steps) (tabulate n (λ i. getD (a .regs) (slot W R i 1) 0)) (a .state .hot .halted)
+ran (Outcome.Fault f) W n R room a =
+    faulted (a .steps) (written (keyOf 7 (record { outcome = a .outcome; steps = a .steps; state = a .state }) room))
+ran Outcome.OutOfBudget W n R room a = stopped
+ran (Outcome.Refused number place) W n R room a = stopped
+
+abbrev pub launched : ℕ → ℕ → ℕ → List ℕ → Answered → Answer
+launched W n R room a = ran (a .outcome) W n R room a
+
+-- the definitions give what the page says of a case; for a launch, whatever the page leaves open
+abbrev pub Gives : Case → Answer → Type 0
+Gives (reading words) said = read (readAt words 0) ≡ said
+Gives (operation op a b) said = value (twoOf op a b) ≡ said
+Gives (address base offset) said = value (addressOf base offset) ≡ said
+Gives (launching W n R words) said =
+    (o : Open W R (least said)) → launched W n R (o .room) (launchOf (settings W n R (o .budget)) words (o .regs) (o .device) (o .local)) ≡ said
 
 -- a case, and what the page says of it
 pub record Entry : Type 0 where
@@ -61,6 +94,12 @@ pub record Entry : Type 0 where
 
 abbrev entry : Case → Answer → Entry
 entry c a = record { given = c; said = a }
+
+-- the definitions give it of every entry
+infixr 60 _&_
+pub data Each : List Entry → Type 0 where
+  all : Each []
+  _&_ : {e : Entry} {es : List Entry} → Gives (e .given) (e .said) → Each es → Each (e ∷ es)
 
 abbrev one : Op → ℕ → Bool → ℕ → ℕ → ℕ → ℕ → ℕ → Answer
 one op pred negate rd rs1 rs2 number words =
@@ -101,6 +140,6 @@ table =
     ∷ entry (address 0xFFFFFFFC 8) (value 4)
     -- T12 to T14
     ∷ entry (launching 8 4 2 t12) (ended 9 (7 ∷ 8 ∷ 2 ∷ 2 ∷ []) 12)
-    ∷ entry (launching 8 2 2 t13) (faulted 1 (7 ∷ 1 ∷ 1 ∷ 4 ∷ 1 ∷ 3 ∷ 0 ∷ 0 ∷ []))
-    ∷ entry (launching 8 3 2 t14) (faulted 5 (7 ∷ 7 ∷ 1 ∷ 4 ∷ 1 ∷ 5 ∷ 0 ∷ 1 ∷ 3 ∷ 5 ∷ 7 ∷ 2 ∷ 0 ∷ 0 ∷ []))
+    ∷ entry (launching 8 2 2 t13) (faulted 1 (bytesOfAll (7 ∷ 1 ∷ 1 ∷ 4 ∷ 1 ∷ 3 ∷ 0 ∷ 0 ∷ [])))
+    ∷ entry (launching 8 3 2 t14) (faulted 5 (bytesOfAll (7 ∷ 7 ∷ 1 ∷ 4 ∷ 1 ∷ 5 ∷ 0 ∷ 1 ∷ 3 ∷ 5 ∷ 7 ∷ 2 ∷ 0 ∷ 0 ∷ [])))
     ∷ []

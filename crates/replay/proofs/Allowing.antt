@@ -1,5 +1,6 @@
--- The test of the settings is true exactly of the settings that are allowed.
-use Prim.Native.Nat.{ℕ}
+-- The test of the settings is true exactly of the settings that are allowed; these have no wave wider than the widest.
+use Prim.Native.Nat.{ℕ, _≤_}
+use native.Mathlib.Omega.{arith}
 use mathlib.Core.Path.{_≡_, refl}
 use mathlib.Core.Logic.{_⊎_, inl, inr, ⊎-elim}
 use mathlib.Core.Bool.{Bool, true, _&&_, _||_}
@@ -7,6 +8,7 @@ use lib.Dec.{eqb, leb}
 use borrow.Author.Tests.{leb-true, eqb-true, le-leb}
 use Rattle.ground.proofs.Bools.{and-left, and-right}
 use Rattle.ground.proofs.Tests.{or-cases}
+use Rattle.lanes.specs.Sets.{widest}
 use Rattle.replay.specs.declared.settings.Settings.{Settings}
 use Rattle.replay.specs.Replay.{mostRegisters, mostSteps, settingsRight}
 use Rattle.replay.specs.Refusals.{Allowed}
@@ -52,3 +54,12 @@ right-allowed s e =
       lanes = (leb-true 1 (s .lanes) (and-right (c0 && c1 && c2) c3 r3), leb-true (s .lanes) (s .width) (and-right (c0 && c1 && c2 && c3) c4 r4));
       budget = leb-true (s .budget) mostSteps (and-right (c0 && c1 && c2 && c3 && c4) c5 e);
     }
+
+-- a wave is no wider than the widest
+pub allowed-narrow : (s : Settings) → Allowed s → s .width ≤ widest
+allowed-narrow s a = narrow (s .width) (a .width)
+  where
+    narrow : (w : ℕ) → (w ≡ 8) ⊎ ((w ≡ 16) ⊎ (w ≡ 32)) → w ≤ widest
+    narrow w (inl e) = omega arith
+    narrow w (inr (inl e)) = omega arith
+    narrow w (inr (inr e)) = omega arith

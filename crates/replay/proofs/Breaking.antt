@@ -1,6 +1,7 @@
 -- A call is refused exactly if it breaks a rule of the page's table, with the number and at the place that the table gives it: each test
 -- is taken as passed or not, in the order of the tests.
-use Prim.Native.Nat.{ℕ, _*_}
+use Prim.Native.Nat.{ℕ, _*_, _≤_}
+use native.Mathlib.Omega.{arith}
 use mathlib.Core.Path.{_≡_, refl, sym, ap, _∙_}
 use mathlib.Core.Logic.{_↔_}
 use mathlib.Core.Bool.{Bool, true, false}
@@ -10,25 +11,28 @@ use lib.ListN.{length}
 use borrow.Author.Tests.{leb-true, leb-false, eqb-true, eqb-false, le-leb, lt-leb, eq-eqb, ne-eqb}
 use Rattle.ground.proofs.Bools.{never}
 use Rattle.ground.proofs.Tests.{false-of}
+use Rattle.lanes.specs.Sets.{widest}
 use Rattle.blocks.specs.declared.structure.Checked.{Checked}
 use Rattle.blocks.specs.declared.structure.Checked.the-variants.{Fine}
 use Rattle.blocks.specs.Code.{Code, codeOf}
 use Rattle.blocks.specs.Scan.{checkOf}
-use Rattle.blocks.proofs.Widths.{Fits, code-fits}
 use Rattle.blocks.proofs.Theorems.{refused-not-fine}
+use Rattle.blocks.specs.Nesting.{Nested}
 use Rattle.blocks.proofs.Nested.{passes-if}
 use Rattle.blocks.proofs.Breaking.{same-rule, refused-if}
 use Rattle.wave.specs.declared.state.State.{State}
 use Rattle.wave.specs.Fits as wave
 use Rattle.wave.specs.FitsTest.{fitsTest}
+use Rattle.wave.specs.Opens.{StateFits}
 use Rattle.wave.proofs.Fitting.{fits-test}
+use Rattle.wave.proofs.Opens.{state-fits-if}
 use Rattle.replay.specs.declared.settings.Settings.{Settings}
 use Rattle.replay.specs.declared.answers.Outcome.the-variants.{Refused}
 use Rattle.replay.specs.Replay.{mostWords, settingsRight, thenTest, unless, boundsTest, launchTest, resumeTest, launchOf, resumeOf, goOnOf}
 use Rattle.replay.specs.Refusals.{Bounded, BoundsBreak, setting, code-length, buffer-length}
 use Rattle.replay.specs.Refusals.{LaunchBreaks, in-bounds, in-code, ResumeBreaks, in-launch, in-state}
-use Rattle.replay.proofs.Allowing.{allowed-right, right-allowed}
-use Rattle.replay.proofs.Returns.{then-first, then-second}
+use Rattle.replay.proofs.Allowing.{allowed-right, right-allowed, allowed-narrow}
+use Rattle.replay.proofs.Returns.{then-first, then-second, unless-true}
 use Rattle.replay.proofs.Refusing.{launch-refused-if, resume-refused-if, go-on-refused-if}
 
 module _ (s : Settings) (code regs : List ℕ) where
@@ -81,19 +85,26 @@ module _ (s : Settings) (code regs : List ℕ) where
   abbrev kernel : Code
   kernel = codeOf code (s .registers)
 
-  in-the-code : Fits kernel
-  in-the-code = code-fits code (s .registers)
-
   launch-tested : (n p : ℕ) (v : Checked) → boundsTest s code regs ≡ v → thenTest v (checkOf kernel) ≡ Checked.Refused n p → LaunchBreaks s code regs n p
-  launch-tested n p Checked.Fine ev e = in-code (bounded-if .0 ev) (refused-if kernel in-the-code n p .0 e)
+  launch-tested n p Checked.Fine ev e = in-code (bounded-if .0 ev) (refused-if code (s .registers) n p .0 e)
   launch-tested n p (Checked.Refused m q) ev e = in-bounds (bounds-if n p .0 (ev ∙ e))
 
   launch-broken : (n p : ℕ) → LaunchBreaks s code regs n p → launchTest s code regs ≡ Checked.Refused n p
   launch-broken n p (in-bounds b) = rw (bounds-if n p .1 b) refl
-  launch-broken n p (in-code b x) = ap (λ (v : Checked). thenTest v (checkOf kernel)) (bounded-if .1 b) ∙ refused-if kernel in-the-code n p .1 x
+  launch-broken n p (in-code b x) = ap (λ (v : Checked). thenTest v (checkOf kernel)) (bounded-if .1 b) ∙ refused-if code (s .registers) n p .1 x
 
   launch-if : (n p : ℕ) → (launchTest s code regs ≡ Checked.Refused n p) ↔ LaunchBreaks s code regs n p
   launch-if n p = (launch-tested n p (boundsTest s code regs) refl, launch-broken n p)
+
+  -- its tests pass exactly if all is in bounds and the blocks nest
+  pub launch-passes : (launchTest s code regs ≡ Fine) ↔ (Bounded s code regs × Nested code (s .registers))
+  launch-passes = (
+    λ e. (
+      bounded-if .0 (then-first (boundsTest s code regs) (checkOf kernel) e),
+      passes-if code (s .registers) .0 (then-second (boundsTest s code regs) (checkOf kernel) e),
+    ),
+    λ h. ap (λ (v : Checked). thenTest v (checkOf kernel)) (bounded-if .1 (h .0)) ∙ passes-if code (s .registers) .1 (h .1),
+  )
 
   -- A LAUNCH is refused exactly by the first rule that it breaks
   pub launch-refused : (device local : List ℕ) (n p : ℕ)
@@ -111,22 +122,37 @@ module _ (s : Settings) (code regs : List ℕ) where
     fit-if : (fit ≡ true) ↔ wave.Fits code (s .registers) (s .lanes) (state .hot) (state .blocks)
     fit-if = fits-test code (s .registers) (s .lanes) (state .hot) (state .blocks)
 
+    -- in bounds, for code whose blocks nest, the test is true exactly of the states that fit
+    pub state-fit-if : Bounded s code regs → Nested code (s .registers)
+        → (fit ≡ true) ↔ StateFits code (s .registers) (s .lanes) (state .hot) (state .blocks)
+    state-fit-if b w =
+        let wide : s .lanes ≤ widest = omega (arith, b .allowed .lanes .1, allowed-narrow s (b .allowed)) in
+        let t = state-fits-if code (s .registers) (s .lanes) w wide (state .hot) (state .blocks) in
+        (λ e. t .0 (fit-if .0 e), λ f. fit-if .1 (t .1 f))
+
     resume-tested : (n p : ℕ) (v : Checked) (b : Bool) → launchTest s code regs ≡ v → fit ≡ b → thenTest v (unless b 11) ≡ Checked.Refused n p
         → ResumeBreaks s state code regs n p
     resume-tested n p (Checked.Refused m q) b ev eb e = in-launch (launch-if n p .0 (ev ∙ e))
     resume-tested n p Checked.Fine true ev eb e = refused-not-fine n p (sym e)
     resume-tested n p Checked.Fine false ev eb e =
         let z = same-rule 11 n 0 p e in
-        let bounded = bounded-if .0 (then-first (boundsTest s code regs) (checkOf kernel) ev) in
-        let nested = passes-if kernel in-the-code .0 (then-second (boundsTest s code regs) (checkOf kernel) ev) in
-        rw (← z .0, ← z .1) (in-state bounded nested (λ f. never (sym eb ∙ fit-if .1 f)))
+        let q = launch-passes .0 ev in
+        rw (← z .0, ← z .1) (in-state (q .0) (q .1) (λ f. never (sym eb ∙ state-fit-if (q .0) (q .1) .1 f)))
 
     resume-broken : (n p : ℕ) → ResumeBreaks s state code regs n p → resumeTest s state code regs ≡ Checked.Refused n p
     resume-broken n p (in-launch b) = rw (launch-if n p .1 b) refl
     resume-broken n p (in-state b w f) =
-        ap (λ (v : Checked). thenTest (thenTest v (checkOf kernel)) (unless fit 11)) (bounded-if .1 b)
-        ∙ ap (λ (v : Checked). thenTest v (unless fit 11)) (passes-if kernel in-the-code .1 w)
-        ∙ rw (false-of fit (λ e. f (fit-if .0 e))) refl
+        ap (λ (v : Checked). thenTest v (unless fit 11)) (launch-passes .1 (b, w)) ∙ rw (false-of fit (λ e. f (state-fit-if b w .0 e))) refl
+
+    -- the tests of a resume pass exactly if all is in bounds, the blocks nest and the state fits
+    pub resume-passes : (resumeTest s state code regs ≡ Fine)
+        ↔ (Bounded s code regs × Nested code (s .registers) × StateFits code (s .registers) (s .lanes) (state .hot) (state .blocks))
+    resume-passes = (
+      λ e.
+          let q = launch-passes .0 (then-first (launchTest s code regs) (unless fit 11) e) in
+          (q .0, q .1, state-fit-if (q .0) (q .1) .0 (unless-true fit 11 (then-second (launchTest s code regs) (unless fit 11) e))),
+      λ h. ap (λ (v : Checked). thenTest v (unless fit 11)) (launch-passes .1 (h .0, h .1)) ∙ rw (state-fit-if (h .0) (h .1) .1 (h .2)) refl,
+    )
 
     -- GOING ON is refused exactly by the first rule that it breaks
     pub resume-refused : (device local : List ℕ) (n p : ℕ)

@@ -64,7 +64,7 @@ module _ (code : List ℕ) (registers : ℕ) (checked : checkOf (codeOf code reg
   fewer = omega arith
 
   -- the instruction that is carried out is the one that the check saw
-  found-instruction : (place : ℕ) (path : List Block) → place < length code → (x : Found) → openAt (codeOf code registers) place ≡ x
+  pub found-instruction : (place : ℕ) (path : List Block) → place < length code → (x : Found) → openAt (codeOf code registers) place ≡ x
       → OpenThere x path → Instruction code registers place
   found-instruction place path h nowhere e f = absurd f
   found-instruction place path h (there o) e f = instruction-there code registers place checked o e h
@@ -146,7 +146,7 @@ module _ (s : Settings) (code : List ℕ) where
   either-long true v m e = e
   either-long false v m e = refl
 
-  step-long : (m : Machine) → length (stepAt s code m .end .regs) ≡ length (m .regs)
+  pub step-long : (m : Machine) → length (stepAt s code m .end .regs) ≡ length (m .regs)
   unfolding stepOf
   step-long m =
       let x : Instr = instrAt code (m .wave .place) in

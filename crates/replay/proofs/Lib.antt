@@ -8,6 +8,8 @@ pub mod FaultKinds
 pub mod Returns
 pub mod Refusing
 pub mod Breaking
+pub mod Running
+pub mod StepLanes
 pub mod Naming
 pub mod Stepping
 pub mod Entering

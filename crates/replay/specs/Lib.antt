@@ -4,3 +4,4 @@ pub mod Run
 pub mod Replay
 pub mod Refusals
 pub mod Calls
+pub mod Running

@@ -5,10 +5,9 @@ use mathlib.Core.Path.{_≡_}
 use mathlib.Core.Logic.{_⊎_}
 use mathlib.Core.List.{List}
 use lib.ListN.{length}
-use Rattle.blocks.specs.Code.{codeOf}
 use Rattle.blocks.specs.Nesting.{Nested, Broken}
 use Rattle.wave.specs.declared.state.State.{State}
-use Rattle.wave.specs.Fits.{Fits}
+use Rattle.wave.specs.Opens.{StateFits}
 use Rattle.replay.specs.declared.settings.Settings.{Settings}
 use Rattle.replay.specs.Replay.{mostRegisters, mostSteps, mostWords}
 
@@ -34,10 +33,10 @@ pub data BoundsBreak (s : Settings) (code regs : List ℕ) : ℕ → ℕ → Typ
 -- a launch: then 4 to 10, in the code
 pub data LaunchBreaks (s : Settings) (code regs : List ℕ) : ℕ → ℕ → Type 0 where
   in-bounds : {number place : ℕ} → BoundsBreak s code regs number place → LaunchBreaks s code regs number place
-  in-code : {number place : ℕ} → Bounded s code regs → Broken (codeOf code (s .registers)) number place → LaunchBreaks s code regs number place
+  in-code : {number place : ℕ} → Bounded s code regs → Broken code (s .registers) number place → LaunchBreaks s code regs number place
 
 -- going on from a state: then 11, the state doesn't fit
 pub data ResumeBreaks (s : Settings) (state : State) (code regs : List ℕ) : ℕ → ℕ → Type 0 where
   in-launch : {number place : ℕ} → LaunchBreaks s code regs number place → ResumeBreaks s state code regs number place
-  in-state : Bounded s code regs → Nested (codeOf code (s .registers))
-      → (Fits code (s .registers) (s .lanes) (state .hot) (state .blocks) → ⊥) → ResumeBreaks s state code regs 11 0
+  in-state : Bounded s code regs → Nested code (s .registers)
+      → (StateFits code (s .registers) (s .lanes) (state .hot) (state .blocks) → ⊥) → ResumeBreaks s state code regs 11 0

@@ -12,3 +12,4 @@ pub mod Keeps
 pub mod Stays
 pub mod OpenBlocks
 pub mod OneAnswer
+pub mod Opens

@@ -35,7 +35,7 @@ use Rattle.wave.proofs.Keeps.{keeps, keeps-onward, fits-launch}
 use Rattle.wave.proofs.View.{wave-in}
 
 -- ---- blocks whose part and opener are the same
-same-length : (p : List Block) (o : List Open) → Same p o → length p ≡ length o
+pub same-length : (p : List Block) (o : List Open) → Same p o → length p ≡ length o
 same-length [] [] s = refl
 same-length [] (x ∷ o) s = absurd s
 same-length (b ∷ p) [] s = absurd s

@@ -7,3 +7,4 @@ pub mod Control
 pub mod Fits
 pub mod FitsTest
 pub mod Ready
+pub mod Opens

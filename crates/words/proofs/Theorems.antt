@@ -111,6 +111,15 @@ module _ (i : Instr) (out : List ℕ) where
       back : (valid i ≡ true) × (n ≡ length (wordsOf i)) × (n ≤ length out) → writeOf i out .answer ≡ WriteAnswer.Wrote n
       back h = let fit : length (wordsOf i) ≤ length out = rw (h .1) at (h .2) in rw (h .0, le-leb _ _ fit, h .1)
 
+  -- a refusal leaves the output as lent
+  pub refused-keeps : (n p : ℕ) → writeOf i out .answer ≡ WriteAnswer.Refused n p → writeOf i out .after ≡ out
+  refused-keeps n p e = by (outcome i out)
+    where
+      by : Outcome i out → writeOf i out .after ≡ out
+      by (Outcome.no-words bad f) = ap (λ (x : Written). x .after) f
+      by (Outcome.no-room ok h f) = ap (λ (x : Written). x .after) f
+      by (Outcome.wrote ok h f) = let a = ap (λ (x : Written). x .answer) f in let z : _≡_ {A = ℕ} 0 1 = cc in absurd (omega arith)
+
   -- what is written reads back, whatever stood in the output
   pub written-reads : (n : ℕ) → writeOf i out .answer ≡ WriteAnswer.Wrote n → readAt (writeOf i out .after) 0 ≡ ReadAnswer.Read i n
   written-reads n e =
