@@ -244,13 +244,18 @@ module _ (s : Settings) (code regs device local : List ℕ) (c : ℕ) (most : c 
       (goes-on-from s code l (s .budget) c (stateMachine state regs device local) o most)
 
 -- ---- a run does not look at the settings' budget
+one-budgeted : (a b : ℕ) (s : Settings) (code : List ℕ) (k : ℕ) (m : Machine)
+    → runOf (budgeted a s) code k (stepAt s code m .end) ≡ runOf (budgeted b s) code k (stepAt s code m .end)
+    → runOf (budgeted a s) code (suc k) m ≡ runOf (budgeted b s) code (suc k) m
+unfolding runOf stepOf
+one-budgeted a b s code k m e =
+    ap (λ (r : Ran). run.unless (endedOf s code m) (stop Ended m) (λ (u : Unit {0}). onward (stepAt s code m) m (λ (v : Unit {0}). r))) e
+
 pub run-budgeted : (a b : ℕ) (s : Settings) (code : List ℕ) (k : ℕ) (m : Machine)
     → runOf (budgeted a s) code k m ≡ runOf (budgeted b s) code k m
-unfolding runOf stepOf
+unfolding runOf
 run-budgeted a b s code zero m = refl
-run-budgeted a b s code (suc k) m =
-    ap (λ (r : Ran). run.unless (endedOf s code m) (stop Ended m) (λ (u : Unit {0}). onward (stepAt s code m) m (λ (v : Unit {0}). r)))
-    (run-budgeted a b s code k (stepAt s code m .end))
+run-budgeted a b s code (suc k) m = one-budgeted a b s code k m (run-budgeted a b s code k (stepAt s code m .end))
 
 -- the machine that a state is made from is the one that it holds
 pub state-machine : (m : Machine) → length (m .wave .path) ≤ nesting

@@ -88,6 +88,7 @@ module _ {s : Settings} {x : Instr} {t : ℕ} {h : Hot} {l : Lent} {o : Outcome}
       w .carries ∙ ap (λ (p : ℕ). carriedOf (shapeOf s) x t (record { predicate = p; regs = l .regs; memories = l .memories })) (w .predicate)
 
   as-ordinary : stepAs f went was ≡ ordinaryOf s x t was
+  unfolding ordinaryOf
   as-ordinary =
       ap (λ (g : Faults). stepAs g went was) (w .joins)
       ∙ ap (λ (q : Outcome). stepAs (withBarrier 0 (q .faults)) (moved x was (q .after)) was) as-computed
@@ -129,7 +130,7 @@ pub step-ordinary :
     {x : Instr} {h : Hot} {t : ℕ} {kind : ControlIn} → Looked x h t kind → kind ≡ ControlIn.Other →
     (s : Settings) (path regs device local : List ℕ) →
     ordinaryOf s x t (machineOf h path regs device local) ≡ stepOf s x (machineOf h path regs device local)
-unfolding stepOf
+unfolding ordinaryOf stepOf
 step-ordinary l other s path regs device local = rw (l .lanes, sym (l .is) ∙ other)
 
 -- ---- control

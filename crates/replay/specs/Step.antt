@@ -89,7 +89,7 @@ abbrev pub stepped : StepAnswer → List ℕ → List ℕ → List ℕ → List 
 stepped a path regs device local = record { faults = a .faults; end = machineOf (a .hot) path regs device local }
 
 -- a step of an instruction that is no control instruction, by the lanes t
-abbrev pub ordinaryOf : Settings → Instr → ℕ → Machine → Stepped
+unfoldable pub ordinaryOf : Settings → Instr → ℕ → Machine → Stepped
 ordinaryOf s x t m =
     stepAs (withBarrier 0 (computed s x t m .faults)) (record {
       wave = onwardBy (size (x .op)) (m .wave);

@@ -66,7 +66,20 @@ pub words-fit : (i : Instr) → valid i ≡ true → i .number < 2 ^ 32 → (k :
 words-fit i ok n zero = first-fits i (fields i ok)
 words-fit i ok n (suc k) = rest-fits (limitsOf (i .op) .second) i k (fields i ok .second) (fields i ok .room) n
 
+-- one output has one answer: two refusals have one number, two counts are one, and a refusal is no count
+one-number : {x : WriteAnswer} {m n p q : ℕ} → x ≡ WriteAnswer.Refused m p → x ≡ WriteAnswer.Refused n q → m ≡ n
+one-number e f = cc
+
+one-count : {x : WriteAnswer} {m n : ℕ} → x ≡ WriteAnswer.Wrote m → x ≡ WriteAnswer.Wrote n → m ≡ n
+one-count e f = cc
+
+not-both : {x : WriteAnswer} {m n p : ℕ} → x ≡ WriteAnswer.Refused m p → x ≡ WriteAnswer.Wrote n → ⊥
+not-both e f = let z : _≡_ {A = ℕ} 0 1 = cc in omega arith
+
 module _ (i : Instr) (out : List ℕ) where
+  answered : {w : Written} → writeOf i out ≡ w → writeOf i out .answer ≡ w .answer
+  answered f = ap (λ (x : Written). x .answer) f
+
   -- 12 exactly if no words read as this instruction
   pub no-words-give :
       (writeOf i out .answer ≡ WriteAnswer.Refused (numberOf Rule.words) 0) ↔ ((ws : List ℕ) (at n : ℕ) → readAt ws at ≡ ReadAnswer.Read i n → ⊥)
@@ -76,8 +89,8 @@ module _ (i : Instr) (out : List ℕ) where
           writeOf i out .answer ≡ WriteAnswer.Refused (numberOf Rule.words) 0 → Outcome i out →
           (ws : List ℕ) (at n : ℕ) → readAt ws at ≡ ReadAnswer.Read i n → ⊥
       forth e (Outcome.no-words bad f) ws at n g = never (sym bad ∙ stood ws at i n g .0 .0)
-      forth e (Outcome.no-room ok h f) ws at n g = let a = ap (λ (x : Written). x .answer) f in let z : _≡_ {A = ℕ} 12 13 = cc in omega arith
-      forth e (Outcome.wrote ok h f) ws at n g = let a = ap (λ (x : Written). x .answer) f in let z : _≡_ {A = ℕ} 0 1 = cc in omega arith
+      forth e (Outcome.no-room ok h f) ws at n g = let z = one-number e (answered f) in omega arith
+      forth e (Outcome.wrote ok h f) ws at n g = not-both e (answered f)
 
       back :
           ((ws : List ℕ) (at n : ℕ) → readAt ws at ≡ ReadAnswer.Read i n → ⊥) → Outcome i out →
@@ -93,9 +106,9 @@ module _ (i : Instr) (out : List ℕ) where
     where
       forth :
           writeOf i out .answer ≡ WriteAnswer.Refused (numberOf Rule.room) 0 → Outcome i out → (valid i ≡ true) × (length out < length (wordsOf i))
-      forth e (Outcome.no-words bad f) = let a = ap (λ (x : Written). x .answer) f in let z : _≡_ {A = ℕ} 12 13 = cc in absurd (omega arith)
+      forth e (Outcome.no-words bad f) = let z = one-number e (answered f) in absurd (omega arith)
       forth e (Outcome.no-room ok h f) = (ok, h)
-      forth e (Outcome.wrote ok h f) = let a = ap (λ (x : Written). x .answer) f in let z : _≡_ {A = ℕ} 0 1 = cc in absurd (omega arith)
+      forth e (Outcome.wrote ok h f) = absurd (not-both e (answered f))
 
   -- it is written exactly if it is valid and fits: then its words stand first and the rest is as lent
   pub writes :
@@ -103,10 +116,9 @@ module _ (i : Instr) (out : List ℕ) where
   writes n = (λ e. forth e (outcome i out), back)
     where
       forth : writeOf i out .answer ≡ WriteAnswer.Wrote n → Outcome i out → (valid i ≡ true) × (n ≡ length (wordsOf i)) × (n ≤ length out)
-      forth e (Outcome.no-words bad f) = let a = ap (λ (x : Written). x .answer) f in let z : _≡_ {A = ℕ} 0 1 = cc in absurd (omega arith)
-      forth e (Outcome.no-room ok h f) = let a = ap (λ (x : Written). x .answer) f in let z : _≡_ {A = ℕ} 0 1 = cc in absurd (omega arith)
-      forth e (Outcome.wrote ok h f) =
-          let a = ap (λ (x : Written). x .answer) f in let same : n ≡ length (wordsOf i) = cc in (ok, same, rw same h)
+      forth e (Outcome.no-words bad f) = absurd (not-both (answered f) e)
+      forth e (Outcome.no-room ok h f) = absurd (not-both (answered f) e)
+      forth e (Outcome.wrote ok h f) = let same = one-count e (answered f) in (ok, same, rw same h)
 
       back : (valid i ≡ true) × (n ≡ length (wordsOf i)) × (n ≤ length out) → writeOf i out .answer ≡ WriteAnswer.Wrote n
       back h = let fit : length (wordsOf i) ≤ length out = rw (h .1) at (h .2) in rw (h .0, le-leb _ _ fit, h .1)

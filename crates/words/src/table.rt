@@ -20,106 +20,112 @@ pub enum FoundOp {
 fn sum_op(opcode: u32) -> FoundOp
     ensures { λ r. ⌜ Named opcodeOf sums opcode r ⌝ }
 {
-    match opcode {
-        0x00 => FoundOp::Carried(Op::Two(TwoOp::Add)),
-        0x01 => FoundOp::Carried(Op::Two(TwoOp::Sub)),
-        0x02 => FoundOp::Carried(Op::Two(TwoOp::Mul)),
-        0x03 => FoundOp::Carried(Op::Two(TwoOp::Div)),
-        0x04 => FoundOp::Carried(Op::Two(TwoOp::Udiv)),
-        0x05 => FoundOp::Carried(Op::Two(TwoOp::Rem)),
-        0x06 => FoundOp::Carried(Op::Two(TwoOp::Urem)),
-        0x07 => FoundOp::Carried(Op::One(OneOp::Neg)),
-        0x08 => FoundOp::Carried(Op::One(OneOp::Abs)),
-        0x09 => FoundOp::Carried(Op::Two(TwoOp::Min)),
-        0x0A => FoundOp::Carried(Op::Two(TwoOp::Max)),
-        0x0B => FoundOp::Carried(Op::Two(TwoOp::Mulhi)),
-        _ => FoundOp::Missing,
-    }
+    let op = match opcode {
+        0x00 => Op::Two(TwoOp::Add),
+        0x01 => Op::Two(TwoOp::Sub),
+        0x02 => Op::Two(TwoOp::Mul),
+        0x03 => Op::Two(TwoOp::Div),
+        0x04 => Op::Two(TwoOp::Udiv),
+        0x05 => Op::Two(TwoOp::Rem),
+        0x06 => Op::Two(TwoOp::Urem),
+        0x07 => Op::One(OneOp::Neg),
+        0x08 => Op::One(OneOp::Abs),
+        0x09 => Op::Two(TwoOp::Min),
+        0x0A => Op::Two(TwoOp::Max),
+        0x0B => Op::Two(TwoOp::Mulhi),
+        _ => return FoundOp::Missing,
+    };
+    FoundOp::Carried(op)
 }
 
 // The operation of an opcode 20 to 2F: those on bits, and the comparisons.
 fn bitwise_op(opcode: u32) -> FoundOp
     ensures { λ r. ⌜ Named opcodeOf bitwise opcode r ⌝ }
 {
-    match opcode {
-        0x20 => FoundOp::Carried(Op::Two(TwoOp::And)),
-        0x21 => FoundOp::Carried(Op::Two(TwoOp::Or)),
-        0x22 => FoundOp::Carried(Op::Two(TwoOp::Xor)),
-        0x23 => FoundOp::Carried(Op::One(OneOp::Not)),
-        0x24 => FoundOp::Carried(Op::Two(TwoOp::Shl)),
-        0x25 => FoundOp::Carried(Op::Two(TwoOp::Shr)),
-        0x26 => FoundOp::Carried(Op::Two(TwoOp::Sar)),
-        0x27 => FoundOp::Carried(Op::One(OneOp::Popcnt)),
-        0x28 => FoundOp::Carried(Op::Compare(CompareOp::Eq)),
-        0x29 => FoundOp::Carried(Op::Compare(CompareOp::Ne)),
-        0x2A => FoundOp::Carried(Op::Compare(CompareOp::Lt)),
-        0x2B => FoundOp::Carried(Op::Compare(CompareOp::Ge)),
-        _ => FoundOp::Missing,
-    }
+    let op = match opcode {
+        0x20 => Op::Two(TwoOp::And),
+        0x21 => Op::Two(TwoOp::Or),
+        0x22 => Op::Two(TwoOp::Xor),
+        0x23 => Op::One(OneOp::Not),
+        0x24 => Op::Two(TwoOp::Shl),
+        0x25 => Op::Two(TwoOp::Shr),
+        0x26 => Op::Two(TwoOp::Sar),
+        0x27 => Op::One(OneOp::Popcnt),
+        0x28 => Op::Compare(CompareOp::Eq),
+        0x29 => Op::Compare(CompareOp::Ne),
+        0x2A => Op::Compare(CompareOp::Lt),
+        0x2B => Op::Compare(CompareOp::Ge),
+        _ => return FoundOp::Missing,
+    };
+    FoundOp::Carried(op)
 }
 
 // The operation of an opcode F0 to FF: the moves.
 fn move_op(opcode: u32) -> FoundOp
     ensures { λ r. ⌜ Named opcodeOf moves opcode r ⌝ }
 {
-    match opcode {
-        0xF0 => FoundOp::Carried(Op::One(OneOp::Mov)),
-        0xF1 => FoundOp::Carried(Op::Number),
-        0xF2 => FoundOp::Carried(Op::Special),
-        _ => FoundOp::Missing,
-    }
+    let op = match opcode {
+        0xF0 => Op::One(OneOp::Mov),
+        0xF1 => Op::Number,
+        0xF2 => Op::Special,
+        _ => return FoundOp::Missing,
+    };
+    FoundOp::Carried(op)
 }
 
 // The operation of an opcode 30 to 3F that has no modifiers: those of memory.
 fn access_op(opcode: u32) -> FoundOp
     ensures { λ r. ⌜ Named opcodeOf accesses opcode r ⌝ }
 {
-    match opcode {
-        0x30 => FoundOp::Carried(Op::Load(Space::Device)),
-        0x31 => FoundOp::Carried(Op::Store(Space::Device)),
-        0x38 => FoundOp::Carried(Op::Load(Space::Local)),
-        0x39 => FoundOp::Carried(Op::Store(Space::Local)),
-        0x3D => FoundOp::Carried(Op::Cas),
-        _ => FoundOp::Missing,
-    }
+    let op = match opcode {
+        0x30 => Op::Load(Space::Device),
+        0x31 => Op::Store(Space::Device),
+        0x38 => Op::Load(Space::Local),
+        0x39 => Op::Store(Space::Local),
+        0x3D => Op::Cas,
+        _ => return FoundOp::Missing,
+    };
+    FoundOp::Carried(op)
 }
 
 // The operation of ATOMIC by its modifier.
 fn atomic_op(modifier: u32) -> FoundOp
     ensures { λ r. ⌜ Named modifierOf atomics modifier r ⌝ }
 {
-    match modifier {
-        0 => FoundOp::Carried(Op::Atomic(AtomicOp::Add)),
-        1 => FoundOp::Carried(Op::Atomic(AtomicOp::Sub)),
-        2 => FoundOp::Carried(Op::Atomic(AtomicOp::And)),
-        3 => FoundOp::Carried(Op::Atomic(AtomicOp::Or)),
-        4 => FoundOp::Carried(Op::Atomic(AtomicOp::Xor)),
-        5 => FoundOp::Carried(Op::Atomic(AtomicOp::Min)),
-        6 => FoundOp::Carried(Op::Atomic(AtomicOp::Max)),
-        7 => FoundOp::Carried(Op::Atomic(AtomicOp::Umin)),
-        8 => FoundOp::Carried(Op::Atomic(AtomicOp::Umax)),
-        9 => FoundOp::Carried(Op::Atomic(AtomicOp::Xchg)),
-        _ => FoundOp::Missing,
-    }
+    let op = match modifier {
+        0 => AtomicOp::Add,
+        1 => AtomicOp::Sub,
+        2 => AtomicOp::And,
+        3 => AtomicOp::Or,
+        4 => AtomicOp::Xor,
+        5 => AtomicOp::Min,
+        6 => AtomicOp::Max,
+        7 => AtomicOp::Umin,
+        8 => AtomicOp::Umax,
+        9 => AtomicOp::Xchg,
+        _ => return FoundOp::Missing,
+    };
+    FoundOp::Carried(Op::Atomic(op))
 }
 
 // The operation of control by its modifier.
 fn control_op(modifier: u32) -> FoundOp
     ensures { λ r. ⌜ Named modifierOf controls modifier r ⌝ }
 {
-    match modifier {
-        0 => FoundOp::Carried(Op::Control(ControlOp::If)),
-        1 => FoundOp::Carried(Op::Control(ControlOp::Else)),
-        2 => FoundOp::Carried(Op::Control(ControlOp::Endif)),
-        3 => FoundOp::Carried(Op::Control(ControlOp::Loop)),
-        4 => FoundOp::Carried(Op::Control(ControlOp::Break)),
-        5 => FoundOp::Carried(Op::Control(ControlOp::Continue)),
-        6 => FoundOp::Carried(Op::Control(ControlOp::Endloop)),
-        9 => FoundOp::Carried(Op::Control(ControlOp::Halt)),
-        10 => FoundOp::Carried(Op::Control(ControlOp::Barrier)),
-        15 => FoundOp::Carried(Op::Control(ControlOp::Nop)),
-        _ => FoundOp::Missing,
-    }
+    let op = match modifier {
+        0 => ControlOp::If,
+        1 => ControlOp::Else,
+        2 => ControlOp::Endif,
+        3 => ControlOp::Loop,
+        4 => ControlOp::Break,
+        5 => ControlOp::Continue,
+        6 => ControlOp::Endloop,
+        9 => ControlOp::Halt,
+        10 => ControlOp::Barrier,
+        15 => ControlOp::Nop,
+        _ => return FoundOp::Missing,
+    };
+    FoundOp::Carried(Op::Control(op))
 }
 
 // The operation of an opcode and a modifier among those that touch registers and predicates alone.

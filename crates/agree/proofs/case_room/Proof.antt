@@ -1,0 +1,12 @@
+-- A list of so many equal elements has that length.
+use mathlib.Core.Path.{sym}
+use Prim.Native.Nat.{ℕ}
+use lib.ListN.{length-replicate}
+use Rattle.agree.proofs.case_room.Statement.{statement}
+use Rattle.agree.proofs.case_room.Tie as tie
+
+returns : tie.Need-returns
+returns c = sym (length-replicate {0} {A = ℕ} 320000 0)
+
+pub case-room-spec : {M : Type 1} → statement M
+case-room-spec = tie.close (tie.spec returns)
