@@ -5,48 +5,6 @@ use borrow.Author.Needs.{needs}
 use Rattle.arith.proofs.atomic.Statement.{statement}
 use Rattle.arith.proofs.atomic.Tie as tie
 
-enum-told : tie.Need-enum-told
-enum-told c = search needs
-
-add-requires : tie.Need-add-requires
-add-requires c κs = search needs
-
-enum-told-2 : tie.Need-enum-told-2
-enum-told-2 c = search needs
-
-sub-requires : tie.Need-sub-requires
-sub-requires c κs = search needs
-
-enum-told-3 : tie.Need-enum-told-3
-enum-told-3 c = search needs
-
-enum-told-4 : tie.Need-enum-told-4
-enum-told-4 c = search needs
-
-enum-told-5 : tie.Need-enum-told-5
-enum-told-5 c = search needs
-
-enum-told-6 : tie.Need-enum-told-6
-enum-told-6 c = search needs
-
-min-requires : tie.Need-min-requires
-min-requires c κs = search needs
-
-enum-told-7 : tie.Need-enum-told-7
-enum-told-7 c = search needs
-
-max-requires : tie.Need-max-requires
-max-requires c κs = search needs
-
-enum-told-8 : tie.Need-enum-told-8
-enum-told-8 c = search needs
-
-enum-told-9 : tie.Need-enum-told-9
-enum-told-9 c = search needs
-
-enum-told-10 : tie.Need-enum-told-10
-enum-told-10 c = search needs
-
 returns : tie.Need-returns
 returns c = rw (c .before .enum-told .given .1) (c .add .ensures)
 
@@ -84,32 +42,8 @@ returns-12 : tie.Need-returns-12
 returns-12 c = rw (c .enum-told10 .given .1) refl
 
 pub atomic-spec : {M : Type 1} → statement M
-atomic-spec =
-    tie.close
-    (tie.spec
-    enum-told
-    add-requires
-    enum-told-2
-    sub-requires
-    enum-told-3
-    enum-told-4
-    enum-told-5
-    enum-told-6
-    min-requires
-    enum-told-7
-    max-requires
-    enum-told-8
-    enum-told-9
-    enum-told-10
-    returns
-    returns-2
-    returns-3
-    returns-4
-    returns-5
-    returns-6
-    returns-7
-    returns-8
-    returns-9
-    returns-10
-    returns-11
-    returns-12)
+atomic-spec = tie.close (tie.spec
+    (λ c. search needs) (λ c κs. search needs) (λ c. search needs) (λ c κs. search needs) (λ c. search needs) (λ c. search needs)
+    (λ c. search needs) (λ c. search needs) (λ c κs. search needs) (λ c. search needs) (λ c κs. search needs) (λ c. search needs)
+    (λ c. search needs) (λ c. search needs) returns returns-2 returns-3 returns-4 returns-5 returns-6 returns-7 returns-8 returns-9
+    returns-10 returns-11 returns-12)

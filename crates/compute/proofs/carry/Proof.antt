@@ -9,22 +9,10 @@ use Rattle.compute.proofs.Arms.{arm-compare}
 use Rattle.compute.proofs.carry.Statement.{statement}
 use Rattle.compute.proofs.carry.Tie as tie
 
-enum-known-op : tie.Need-enum-known-op
-enum-known-op c = search needs
-
 carry-class-requires : tie.Need-carry-class-requires
 carry-class-requires c κs =
     let m = c .before .before .before in
     (m .before .before .before .before .pre, λ o e. absurd (miss (0 ∷ 2 ∷ 3 ∷ 4 ∷ 5 ∷ 6 ∷ 7 ∷ 8 ∷ 9 ∷ []) 1 tt (rw e at (m .match .keys2))))
-
-same-length : tie.Need-same-length
-same-length c = search needs
-
-same-length-2 : tie.Need-same-length-2
-same-length-2 c = search needs
-
-same-length-3 : tie.Need-same-length-3
-same-length-3 c = search needs
 
 returns : tie.Need-returns
 returns c = c .before .before .before .before .before .before .carry-class .ensures _
@@ -37,16 +25,10 @@ compare-results-requires c κs =
       stands-rs2 (z .args .shape) (z .args .x) (z .args .regs .now) (z .pre) _ e refl,
     )
 
-no-faults-requires : tie.Need-no-faults-requires
-no-faults-requires c κs = search needs
-
 predicate-after-requires : tie.Need-predicate-after-requires
 predicate-after-requires c κs =
     let z = c .before .before .before .before .before .before .before .before .before in
     narrow (z .args .shape) (z .args .x) (z .args .regs .now) (z .pre)
-
-same-length-4 : tie.Need-same-length-4
-same-length-4 c = search needs
 
 returns-2 : tie.Need-returns-2
 returns-2 c =
@@ -56,17 +38,6 @@ returns-2 c =
     (c .before .before .compare-results .ensures) (c .predicate-after .ensures)
 
 pub carry-spec : {M : Type 1} → statement M
-carry-spec =
-    tie.close
-    (tie.spec
-    enum-known-op
-    carry-class-requires
-    same-length
-    same-length-2
-    same-length-3
-    returns
-    compare-results-requires
-    no-faults-requires
-    predicate-after-requires
-    same-length-4
-    returns-2)
+carry-spec = tie.close (tie.spec
+    (λ c. search needs) carry-class-requires (λ c. search needs) (λ c. search needs) (λ c. search needs) returns compare-results-requires
+    (λ c κs. search needs) predicate-after-requires (λ c. search needs) returns-2)

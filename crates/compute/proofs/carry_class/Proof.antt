@@ -33,23 +33,11 @@ module _ (z : tie.Start) (o : Op) (e : z .args .x .op ≡ o) where
   slim : z .args .shape .width ≤ widest
   slim = narrow (z .args .shape) (z .args .x) (z .args .regs .now) (z .pre .0)
 
-enum-known-op : tie.Need-enum-known-op
-enum-known-op c = search needs
-
 carry-two-requires : tie.Need-carry-two-requires
 carry-two-requires c κs =
     let z = c .before .before .before .before .before .before .before in
     let e = c .before .before .op .given .1 in
     (rd-stands z _ e refl, rs1-stands z _ e refl, rs2-stands z _ e refl)
-
-enum-told : tie.Need-enum-told
-enum-told c = search needs
-
-no-faults-requires : tie.Need-no-faults-requires
-no-faults-requires c κs = search needs
-
-enum-known-op-2 : tie.Need-enum-known-op-2
-enum-known-op-2 c = search needs
 
 one-results-requires : tie.Need-one-results-requires
 one-results-requires c κs =
@@ -63,9 +51,6 @@ carry-value-requires c κs =
     let e = c .before .before .before .before .op2 .given .1 in
     rd-stands z _ e refl
 
-enum-told-2 : tie.Need-enum-told-2
-enum-told-2 c = search needs
-
 special-results-requires : tie.Need-special-results-requires
 special-results-requires c κs = slim (c .before .before .before .before .before) _ (c .enum-told2 .given .1)
 
@@ -74,9 +59,6 @@ carry-value-requires-2 c κs =
     let z = c .before .before .before .before .before .before .before in
     let e = c .before .before .enum-told2 .given .1 in
     rd-stands z _ e refl
-
-enum-told-3 : tie.Need-enum-told-3
-enum-told-3 c = search needs
 
 number-results-requires : tie.Need-number-results-requires
 number-results-requires c κs = slim (c .before .before .before .before .before) _ (c .enum-told3 .given .1)
@@ -87,17 +69,11 @@ carry-value-requires-3 c κs =
     let e = c .before .before .enum-told3 .given .1 in
     rd-stands z _ e refl
 
-enum-known-op-3 : tie.Need-enum-known-op-3
-enum-known-op-3 c = search needs
-
 carry-load-requires : tie.Need-carry-load-requires
 carry-load-requires c κs =
     let z = c .before .before .before .before .before .before .before .before .before in
     let e = c .before .before .before .before .op3 .given .1 in
     (rd-stands z _ e refl, rs1-stands z _ e refl)
-
-enum-known-op-4 : tie.Need-enum-known-op-4
-enum-known-op-4 c = search needs
 
 carry-store-requires : tie.Need-carry-store-requires
 carry-store-requires c κs =
@@ -105,32 +81,17 @@ carry-store-requires c κs =
     let e = c .before .before .before .before .op4 .given .1 in
     (rd-stands z _ e refl, rs1-stands z _ e refl)
 
-enum-known-op-5 : tie.Need-enum-known-op-5
-enum-known-op-5 c = search needs
-
 carry-change-requires : tie.Need-carry-change-requires
 carry-change-requires c κs =
     let z = c .before .before .before .before .before .before .before .before in
     let e = c .before .before .before .op5 .given .1 in
     (rd-stands z _ e refl, rs1-stands z _ e refl, rs2-stands z _ e refl, rs2-stands z _ e refl)
 
-enum-told-4 : tie.Need-enum-told-4
-enum-told-4 c = search needs
-
 carry-change-requires-2 : tie.Need-carry-change-requires-2
 carry-change-requires-2 c κs =
     let z = c .before .before .before .before .before .before .before in
     let e = c .before .before .enum-told4 .given .1 in
     (rd-stands z _ e refl, rs1-stands z _ e refl, rs2-stands z _ e refl, rs3-stands z _ e refl)
-
-enum-told-5 : tie.Need-enum-told-5
-enum-told-5 c = search needs
-
-no-faults-requires-2 : tie.Need-no-faults-requires-2
-no-faults-requires-2 c κs = search needs
-
-same-length : tie.Need-same-length
-same-length c = search needs
 
 returns : tie.Need-returns
 returns c p =
@@ -141,18 +102,12 @@ returns c p =
 returns-2 : tie.Need-returns-2
 returns-2 c p = absurd (c .before .before .before .before .before .before .pre .1 _ (c .before .enum-told .given .1))
 
-same-length-2 : tie.Need-same-length-2
-same-length-2 c = search needs
-
 returns-3 : tie.Need-returns-3
 returns-3 c p =
     let a = c .before .before .before .before .before .before .before .before .before .before .before .before .args in
     arm-one (a .shape) (a .x) (a .t) p (a .regs .now) (a .device .now) (a .local .now) _
     (c .before .before .before .before .before .before .before .op2 .given .1)
     _ _ _ (c .before .before .before .before .one-results .ensures) (c .before .before .carry-value .ensures)
-
-same-length-3 : tie.Need-same-length-3
-same-length-3 c = search needs
 
 returns-4 : tie.Need-returns-4
 returns-4 c p =
@@ -161,24 +116,12 @@ returns-4 c p =
     (c .before .before .before .before .before .enum-told2 .given .1) _ _ _ (c .before .before .before .before .special-results .ensures)
     (c .before .before .carry-value2 .ensures)
 
-same-length-4 : tie.Need-same-length-4
-same-length-4 c = search needs
-
 returns-5 : tie.Need-returns-5
 returns-5 c p =
     let a = c .before .before .before .before .before .before .before .before .before .before .args in
     arm-number (a .shape) (a .x) (a .t) p (a .regs .now) (a .device .now) (a .local .now)
     (c .before .before .before .before .before .enum-told3 .given .1) _ _ _ (c .before .before .before .before .number-results .ensures)
     (c .before .before .carry-value3 .ensures)
-
-same-length-5 : tie.Need-same-length-5
-same-length-5 c = search needs
-
-same-length-6 : tie.Need-same-length-6
-same-length-6 c = search needs
-
-same-length-7 : tie.Need-same-length-7
-same-length-7 c = search needs
 
 returns-6 : tie.Need-returns-6
 returns-6 c p =
@@ -188,15 +131,6 @@ returns-6 c p =
     arm-load (a .shape) (a .x) (a .t) p (a .regs .now) (a .device .now) (a .local .now) _ e (slim z _ e) _ _
     (c .before .before .carry-load .ensures)
 
-same-length-8 : tie.Need-same-length-8
-same-length-8 c = search needs
-
-same-length-9 : tie.Need-same-length-9
-same-length-9 c = search needs
-
-same-length-10 : tie.Need-same-length-10
-same-length-10 c = search needs
-
 returns-7 : tie.Need-returns-7
 returns-7 c p =
     let z = c .before .before .before .before .before .before .before .before .before .before .before .before .before .before in
@@ -205,24 +139,12 @@ returns-7 c p =
     arm-store (a .shape) (a .x) (a .t) p (a .regs .now) (a .device .now) (a .local .now) _ e (slim z _ e) _ _ _
     (c .before .before .before .before .carry-store .ensures)
 
-same-length-11 : tie.Need-same-length-11
-same-length-11 c = search needs
-
-same-length-12 : tie.Need-same-length-12
-same-length-12 c = search needs
-
 returns-8 : tie.Need-returns-8
 returns-8 c p =
     let a = c .before .before .before .before .before .before .before .before .before .before .before .before .before .args in
     arm-atomic (a .shape) (a .x) (a .t) p (a .regs .now) (a .device .now) (a .local .now) _
     (c .before .before .before .before .before .before .before .before .op5 .given .1)
     _ _ _ (c .before .before .before .before .carry-change .ensures)
-
-same-length-13 : tie.Need-same-length-13
-same-length-13 c = search needs
-
-same-length-14 : tie.Need-same-length-14
-same-length-14 c = search needs
 
 returns-9 : tie.Need-returns-9
 returns-9 c p =
@@ -238,53 +160,11 @@ returns-10 c p =
     (c .before .enum-told5 .given .1) _ (c .no-faults2 .ensures)
 
 pub carry-class-spec : {M : Type 1} → statement M
-carry-class-spec =
-    tie.close
-    (tie.spec
-    enum-known-op
-    carry-two-requires
-    enum-told
-    no-faults-requires
-    enum-known-op-2
-    one-results-requires
-    carry-value-requires
-    enum-told-2
-    special-results-requires
-    carry-value-requires-2
-    enum-told-3
-    number-results-requires
-    carry-value-requires-3
-    enum-known-op-3
-    carry-load-requires
-    enum-known-op-4
-    carry-store-requires
-    enum-known-op-5
-    carry-change-requires
-    enum-told-4
-    carry-change-requires-2
-    enum-told-5
-    no-faults-requires-2
-    same-length
-    returns
-    returns-2
-    same-length-2
-    returns-3
-    same-length-3
-    returns-4
-    same-length-4
-    returns-5
-    same-length-5
-    same-length-6
-    same-length-7
-    returns-6
-    same-length-8
-    same-length-9
-    same-length-10
-    returns-7
-    same-length-11
-    same-length-12
-    returns-8
-    same-length-13
-    same-length-14
-    returns-9
-    returns-10)
+carry-class-spec = tie.close (tie.spec
+    (λ c. search needs) carry-two-requires (λ c. search needs) (λ c κs. search needs) (λ c. search needs) one-results-requires
+    carry-value-requires (λ c. search needs) special-results-requires carry-value-requires-2 (λ c. search needs) number-results-requires
+    carry-value-requires-3 (λ c. search needs) carry-load-requires (λ c. search needs) carry-store-requires (λ c. search needs)
+    carry-change-requires (λ c. search needs) carry-change-requires-2 (λ c. search needs) (λ c κs. search needs) (λ c. search needs)
+    returns returns-2 (λ c. search needs) returns-3 (λ c. search needs) returns-4 (λ c. search needs) returns-5 (λ c. search needs)
+    (λ c. search needs) (λ c. search needs) returns-6 (λ c. search needs) (λ c. search needs) (λ c. search needs) returns-7
+    (λ c. search needs) (λ c. search needs) returns-8 (λ c. search needs) (λ c. search needs) returns-9 returns-10)

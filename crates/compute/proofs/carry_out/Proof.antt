@@ -8,20 +8,8 @@ use Rattle.compute.proofs.Carrying.{carried-in, carried-out}
 use Rattle.compute.proofs.carry_out.Statement.{statement}
 use Rattle.compute.proofs.carry_out.Tie as tie
 
-in-shape-requires : tie.Need-in-shape-requires
-in-shape-requires c κs = search needs
-
 carry-requires : tie.Need-carry-requires
 carry-requires c κs = sym (c .before .before .before .before .in-shape .ensures) ∙ c .before .before .before .if1 .taken
-
-same-length : tie.Need-same-length
-same-length c = search needs
-
-same-length-2 : tie.Need-same-length-2
-same-length-2 c = search needs
-
-same-length-3 : tie.Need-same-length-3
-same-length-3 c = search needs
 
 returns : tie.Need-returns
 returns c =
@@ -31,12 +19,6 @@ returns c =
     ∙ sym (carried-in (a .shape) (a .x) (a .t) (lent (a .predicate) (a .regs .now) (a .device .now) (a .local .now))
     (sym (z .before .in-shape .ensures) ∙ z .if1 .taken))
 
-no-faults-requires : tie.Need-no-faults-requires
-no-faults-requires c κs = search needs
-
-same-length-4 : tie.Need-same-length-4
-same-length-4 c = search needs
-
 returns-2 : tie.Need-returns-2
 returns-2 c =
     let a = c .before .before .before .before .before .before .before .args in
@@ -45,15 +27,6 @@ returns-2 c =
     ∙ sym (carried-out (a .shape) (a .x) (a .t) m (sym (c .before .before .in-shape .ensures) ∙ c .before .if1 .left))
 
 pub carry-out-spec : {M : Type 1} → statement M
-carry-out-spec =
-    tie.close
-    (tie.spec
-    in-shape-requires
-    carry-requires
-    same-length
-    same-length-2
-    same-length-3
-    returns
-    no-faults-requires
-    same-length-4
-    returns-2)
+carry-out-spec = tie.close (tie.spec
+    (λ c κs. search needs) carry-requires (λ c. search needs) (λ c. search needs) (λ c. search needs) returns (λ c κs. search needs)
+    (λ c. search needs) returns-2)

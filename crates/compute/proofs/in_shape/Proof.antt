@@ -6,29 +6,13 @@ use Rattle.ground.proofs.Numbers.{product-lt}
 use Rattle.compute.proofs.in_shape.Statement.{statement}
 use Rattle.compute.proofs.in_shape.Tie as tie
 
-cast-room : tie.Need-cast-room
-cast-room c = search needs
-
-cast-room-2 : tie.Need-cast-room-2
-cast-room-2 c = search needs
-
 mul-room : tie.Need-mul-room
 mul-room c =
     let s = c .before .before .before .args .shape in
     record { fits = product-lt 32 {a = s .width} {b = s .registers} (omega arith) (omega arith) }
 
-registers-below-requires : tie.Need-registers-below-requires
-registers-below-requires c κs = search needs
-
 returns : tie.Need-returns
 returns c = rw (c .registers-below .ensures) refl
 
 pub in-shape-spec : {M : Type 1} → statement M
-in-shape-spec =
-    tie.close
-    (tie.spec
-    cast-room
-    cast-room-2
-    mul-room
-    registers-below-requires
-    returns)
+in-shape-spec = tie.close (tie.spec (λ c. search needs) (λ c. search needs) mul-room (λ c κs. search needs) returns)

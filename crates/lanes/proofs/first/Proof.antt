@@ -8,9 +8,6 @@ use Rattle.lanes.proofs.Masks.{shifted, counted, full}
 use Rattle.lanes.proofs.first.Statement.{statement}
 use Rattle.lanes.proofs.first.Tie as tie
 
-shl-result : tie.Need-shl-result
-shl-result c = search needs
-
 sub-result : tie.Need-sub-result
 sub-result c = omega (arith, shifted widest (c .before .args .n) (c .if1 .taken), pow-pos (c .before .args .n))
 
@@ -21,4 +18,4 @@ returns-2 : tie.Need-returns-2
 returns-2 c = sym (full widest (c .before .args .n) (c .if1 .left))
 
 pub first-spec : {M : Type 1} → statement M
-first-spec = tie.close (tie.spec shl-result sub-result returns returns-2)
+first-spec = tie.close (tie.spec (λ c. search needs) sub-result returns returns-2)

@@ -5,11 +5,8 @@ use Rattle.lanes.proofs.Masks.{tested}
 use Rattle.lanes.proofs.has.Statement.{statement}
 use Rattle.lanes.proofs.has.Tie as tie
 
-shr-result : tie.Need-shr-result
-shr-result c = search needs
-
 returns : tie.Need-returns
 returns c = tested widest (c .args .set) (c .args .lane) (c .fits .set .fits)
 
 pub has-spec : {M : Type 1} → statement M
-has-spec = tie.close (tie.spec shr-result returns)
+has-spec = tie.close (tie.spec (λ c. search needs) returns)

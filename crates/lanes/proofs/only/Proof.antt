@@ -5,9 +5,6 @@ use Rattle.lanes.proofs.Masks.{picked-one, picked-none}
 use Rattle.lanes.proofs.only.Statement.{statement}
 use Rattle.lanes.proofs.only.Tie as tie
 
-shl-result : tie.Need-shl-result
-shl-result c = search needs
-
 returns : tie.Need-returns
 returns c = picked-one widest (c .before .args .lane) (c .before .args .picked) (c .if1 .taken)
 
@@ -15,4 +12,4 @@ returns-2 : tie.Need-returns-2
 returns-2 c = picked-none widest (c .before .args .lane) (c .before .args .picked) (c .if1 .left)
 
 pub only-spec : {M : Type 1} → statement M
-only-spec = tie.close (tie.spec shl-result returns returns-2)
+only-spec = tie.close (tie.spec (λ c. search needs) returns returns-2)

@@ -7,26 +7,8 @@ use borrow.Author.Needs.{needs}
 use Rattle.listing.proofs.list.Statement.{statement}
 use Rattle.listing.proofs.list.Tie as tie
 
-slice-aggregate-put-text : tie.Need-slice-aggregate-put-text
-slice-aggregate-put-text c = search needs
-
-put-text-requires : tie.Need-put-text-requires
-put-text-requires c κs = search needs
-
-same-length : tie.Need-same-length
-same-length c = search needs
-
 returns : tie.Need-returns
 returns c = puts-same (text-long _ (c .before .before .before .before .before .if1 .taken)) (c .before .before .put-text .ensures)
-
-slice-aggregate-firsts : tie.Need-slice-aggregate-firsts
-slice-aggregate-firsts c = search needs
-
-firsts-requires : tie.Need-firsts-requires
-firsts-requires c κs = search needs
-
-enum-known-n : tie.Need-enum-known-n
-enum-known-n c = search needs
 
 -- the records are counted, and their first equal ones are in the array
 records : (z : tie.After-n)
@@ -47,24 +29,12 @@ slice-aggregate-put-table c = sym (length-take-le _ _ (records (c .before .befor
 put-table-requires : tie.Need-put-table-requires
 put-table-requires c κs = let k = records (c .before .before .before) in (k .accepted, k .firsts)
 
-enum-known-number : tie.Need-enum-known-number
-enum-known-number c = search needs
-
-put-refusal-requires : tie.Need-put-refusal-requires
-put-refusal-requires c κs = search needs
-
-same-length-2 : tie.Need-same-length-2
-same-length-2 c = search needs
-
 returns-2 : tie.Need-returns-2
 returns-2 c =
     let z = c .before .before .before .before .before .before in
     let k = records z in
     let short = z .before .before .before .before .before .if1 .left in
     puts-same (text-table _ short _ (k .accepted) (k .firsts)) (c .before .before .put-table .ensures)
-
-same-length-3 : tie.Need-same-length-3
-same-length-3 c = search needs
 
 returns-3 : tie.Need-returns-3
 returns-3 c =
@@ -74,22 +44,7 @@ returns-3 c =
     puts-same (text-refused _ (y .before .before .if1 .left) _ (k .0) (k .1)) (c .before .before .put-refusal .ensures)
 
 pub list-spec : {M : Type 1} → statement M
-list-spec =
-    tie.close
-    (tie.spec
-    slice-aggregate-put-text
-    put-text-requires
-    same-length
-    returns
-    slice-aggregate-firsts
-    firsts-requires
-    enum-known-n
-    array-share-prefix-firsts
-    slice-aggregate-put-table
-    put-table-requires
-    enum-known-number
-    put-refusal-requires
-    same-length-2
-    returns-2
-    same-length-3
-    returns-3)
+list-spec = tie.close (tie.spec
+    (λ c. search needs) (λ c κs. search needs) (λ c. search needs) returns (λ c. search needs) (λ c κs. search needs) (λ c. search needs)
+    array-share-prefix-firsts slice-aggregate-put-table put-table-requires (λ c. search needs) (λ c κs. search needs) (λ c. search needs)
+    returns-2 (λ c. search needs) returns-3)

@@ -19,23 +19,8 @@ abbrev μ-loop : tie.MeasureT-loop
 loop-holds : tie.Need-loop-holds Inv-loop μ-loop
 loop-holds c = tabled-none _ refl
 
-add-word-at : tie.Need-add-word-at Inv-loop μ-loop
-add-word-at c = omega arith
-
-word-at-requires : tie.Need-word-at-requires Inv-loop μ-loop
-word-at-requires c κs = search needs
-
-mul-path : tie.Need-mul-path Inv-loop μ-loop
-mul-path c = omega arith
-
 array-write-path : tie.Need-array-write-path Inv-loop μ-loop
 array-write-path c = omega (arith, c .before .before .loop .inv .long)
-
-add-k : tie.Need-add-k Inv-loop μ-loop
-add-k c = omega arith
-
-loop-less : tie.Need-loop-less Inv-loop μ-loop
-loop-less c = omega arith
 
 loop-again : tie.Need-loop-again Inv-loop μ-loop
 loop-again c = tabled-more (c .before .before .loop .inv) (omega arith) _ (c .word-at .ensures)
@@ -45,17 +30,6 @@ unfolding pathIn
 returns c = tabled-all (c .before .loop .inv) (omega arith)
 
 pub path-of-spec : {M : Type 1} → statement M
-path-of-spec =
-    tie.close
-    (tie.spec
-    Inv-loop
-    μ-loop
-    loop-holds
-    add-word-at
-    word-at-requires
-    mul-path
-    array-write-path
-    add-k
-    loop-less
-    loop-again
-    returns)
+path-of-spec = tie.close (tie.spec
+    Inv-loop μ-loop loop-holds (λ c. omega arith) (λ c κs. search needs) (λ c. omega arith) array-write-path (λ c. omega arith)
+    (λ c. omega arith) loop-again returns)

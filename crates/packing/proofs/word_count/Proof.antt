@@ -6,21 +6,9 @@ use borrow.Author.Needs.{needs}
 use Rattle.packing.proofs.word_count.Statement.{statement}
 use Rattle.packing.proofs.word_count.Tie as tie
 
-depth-of-requires : tie.Need-depth-of-requires
-depth-of-requires c κs = search needs
-
-cast-result : tie.Need-cast-result
-cast-result c = search needs
-
-mul-result : tie.Need-mul-result
-mul-result c = search needs
-
-add-result : tie.Need-add-result
-add-result c = search needs
-
 returns : tie.Need-returns
 unfolding wordCount
 returns c = ap (λ (d : ℕ). 7 + 6 * d) (c .depth-of .ensures)
 
 pub word-count-spec : {M : Type 1} → statement M
-word-count-spec = tie.close (tie.spec depth-of-requires cast-result mul-result add-result returns)
+word-count-spec = tie.close (tie.spec (λ c κs. search needs) (λ c. search needs) (λ c. search needs) (λ c. search needs) returns)

@@ -16,9 +16,6 @@ Inv-loop blocks front words₀ k₀ words k = Tabled stateWords (λ (j : ℕ). g
 abbrev μ-loop : tie.MeasureT-loop
 μ-loop blocks front words₀ k₀ words k = stateWords - k
 
-whole-requires : tie.Need-whole-requires Inv-loop μ-loop
-whole-requires c κs = search needs
-
 loop-holds : tie.Need-loop-holds Inv-loop μ-loop
 loop-holds c = tabled-none _ refl
 
@@ -28,20 +25,8 @@ slice-aggregate-joined-at c = refl
 slice-aggregate-joined-at-2 : tie.Need-slice-aggregate-joined-at-2 Inv-loop μ-loop
 slice-aggregate-joined-at-2 c = sym (c .before .before .before .before .whole .ensures)
 
-joined-at-requires : tie.Need-joined-at-requires Inv-loop μ-loop
-joined-at-requires c κs = search needs
-
-mul-words : tie.Need-mul-words Inv-loop μ-loop
-mul-words c = omega arith
-
 array-write-words : tie.Need-array-write-words Inv-loop μ-loop
 array-write-words c = omega (arith, c .before .before .before .before .loop .inv .long)
-
-add-k : tie.Need-add-k Inv-loop μ-loop
-add-k c = omega arith
-
-loop-less : tie.Need-loop-less Inv-loop μ-loop
-loop-less c = omega arith
 
 loop-again : tie.Need-loop-again Inv-loop μ-loop
 loop-again c = tabled-more (c .before .before .before .before .loop .inv) (omega arith) _ (c .joined-at .ensures)
@@ -55,19 +40,6 @@ returns c =
     ∙ sym (tabulate-ext stateWords (λ (j : ℕ). getD (wordsOf s) j 0) (wordsOf s) long (λ k h. refl))
 
 pub words-of-spec : {M : Type 1} → statement M
-words-of-spec =
-    tie.close
-    (tie.spec
-    Inv-loop
-    μ-loop
-    whole-requires
-    loop-holds
-    slice-aggregate-joined-at
-    slice-aggregate-joined-at-2
-    joined-at-requires
-    mul-words
-    array-write-words
-    add-k
-    loop-less
-    loop-again
-    returns)
+words-of-spec = tie.close (tie.spec
+    Inv-loop μ-loop (λ c κs. search needs) loop-holds slice-aggregate-joined-at slice-aggregate-joined-at-2 (λ c κs. search needs)
+    (λ c. omega arith) array-write-words (λ c. omega arith) (λ c. omega arith) loop-again returns)

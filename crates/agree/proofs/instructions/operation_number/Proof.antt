@@ -12,21 +12,11 @@ small-opcode z = rw (z .opcode-of .ensures) (table (z .before .args .op) .opcode
 small-modifier : (z : tie.After-modifier-of) → z .modifier-of .result < 16
 small-modifier z = rw (z .modifier-of .ensures) (table (z .before .before .args .op) .modifier)
 
-opcode-of-requires : tie.Need-opcode-of-requires
-opcode-of-requires c κs = search needs
-
 mul-result : tie.Need-mul-result
 mul-result c = let a = small-opcode c in omega arith
-
-modifier-of-requires : tie.Need-modifier-of-requires
-modifier-of-requires c κs = search needs
 
 add-result : tie.Need-add-result
 add-result c = let a = small-opcode (c .before) in let b = small-modifier c in omega arith
 
-returns : tie.Need-returns
-returns c = search needs
-
 pub operation-number-spec : {M : Type 1} → statement M
-operation-number-spec =
-    tie.close (tie.spec opcode-of-requires mul-result modifier-of-requires add-result returns)
+operation-number-spec = tie.close (tie.spec (λ c κs. search needs) mul-result (λ c κs. search needs) add-result (λ c. search needs))

@@ -17,12 +17,6 @@ loop-holds c = counted-none 32 (c .args .a) (c .fits .a .fits)
 add-count : tie.Need-add-count Inv-loop μ-loop
 add-count c = omega (arith, c .before .loop .inv .few)
 
-add-i : tie.Need-add-i Inv-loop μ-loop
-add-i c = omega arith
-
-loop-less : tie.Need-loop-less Inv-loop μ-loop
-loop-less c = omega arith
-
 loop-again : tie.Need-loop-again Inv-loop μ-loop
 loop-again c = counted-more (c .before .loop .inv) (c .loop-test .taken)
 
@@ -30,5 +24,4 @@ returns : tie.Need-returns Inv-loop μ-loop
 returns c = counted-all (c .before .loop .inv) (c .loop-test .left)
 
 pub ones-spec : {M : Type 1} → statement M
-ones-spec =
-    tie.close (tie.spec Inv-loop μ-loop loop-holds add-count add-i loop-less loop-again returns)
+ones-spec = tie.close (tie.spec Inv-loop μ-loop loop-holds add-count (λ c. omega arith) (λ c. omega arith) loop-again returns)

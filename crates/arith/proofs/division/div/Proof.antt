@@ -11,12 +11,6 @@ returns c = by-zero (c .before .args .a) (c .before .args .b) (c .if1 .taken)
 returns-2 : tie.Need-returns-2
 returns-2 c = overflow (c .before .before .args .a) (c .before .before .args .b) (c .if2 .taken)
 
-to-signed-requires : tie.Need-to-signed-requires
-to-signed-requires c κs = search needs
-
-to-signed-requires-2 : tie.Need-to-signed-requires-2
-to-signed-requires-2 c κs = search needs
-
 divided :
     (c : tie.After-to-signed2)
     → Divided (c .before .before .before .before .args .a) (c .before .before .before .before .args .b) (c .before .to-signed .result) (c .to-signed2 .result)
@@ -32,20 +26,9 @@ divided c =
 div-to-register : tie.Need-div-to-register
 div-to-register c = asked (divided c)
 
-to-register-requires : tie.Need-to-register-requires
-to-register-requires c κs = search needs
-
 returns-3 : tie.Need-returns-3
 returns-3 c = c .to-register .ensures ∙ quotient (divided (c .before))
 
 pub div-spec : {M : Type 1} → statement M
-div-spec =
-    tie.close
-    (tie.spec
-    returns
-    returns-2
-    to-signed-requires
-    to-signed-requires-2
-    div-to-register
-    to-register-requires
-    returns-3)
+div-spec = tie.close (tie.spec
+    returns returns-2 (λ c κs. search needs) (λ c κs. search needs) div-to-register (λ c κs. search needs) returns-3)

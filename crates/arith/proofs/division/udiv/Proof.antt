@@ -8,11 +8,5 @@ use Rattle.arith.proofs.division.udiv.Tie as tie
 returns : tie.Need-returns
 returns c = rw (c .if1 .taken) (sym (div-zero _))
 
-div-result : tie.Need-div-result
-div-result c = search needs
-
-returns-2 : tie.Need-returns-2
-returns-2 c = search needs
-
 pub udiv-spec : {M : Type 1} → statement M
-udiv-spec = tie.close (tie.spec returns div-result returns-2)
+udiv-spec = tie.close (tie.spec returns (λ c. search needs) (λ c. search needs))

@@ -7,11 +7,5 @@ use Rattle.arith.proofs.products.mul.Tie as tie
 mul-result : tie.Need-mul-result
 mul-result c = record { fits = product-lt 32 (c .fits .a .fits) (c .fits .b .fits) }
 
-cast-result : tie.Need-cast-result
-cast-result c = search needs
-
-returns : tie.Need-returns
-returns c = search needs
-
 pub mul-spec : {M : Type 1} → statement M
-mul-spec = tie.close (tie.spec mul-result cast-result returns)
+mul-spec = tie.close (tie.spec mul-result (λ c. search needs) (λ c. search needs))

@@ -11,8 +11,5 @@ mul-result c = record { fits = product-lt 32 (c .fits .a .fits) (c .fits .b .fit
 cast-result : tie.Need-cast-result
 cast-result c = omega (arith, product-lt 32 (c .fits .a .fits) (c .fits .b .fits))
 
-returns : tie.Need-returns
-returns c = search needs
-
 pub mulhi-spec : {M : Type 1} → statement M
-mulhi-spec = tie.close (tie.spec mul-result cast-result returns)
+mulhi-spec = tie.close (tie.spec mul-result cast-result (λ c. search needs))

@@ -9,18 +9,6 @@ use Rattle.arith.proofs.Registers.{read-back, written, shift-fits}
 use Rattle.arith.proofs.shifts.sar.Statement.{statement}
 use Rattle.arith.proofs.shifts.sar.Tie as tie
 
-to-signed-requires : tie.Need-to-signed-requires
-to-signed-requires c κs = search needs
-
-cast-to-register : tie.Need-cast-to-register
-cast-to-register c = search needs
-
-shr-to-register : tie.Need-shr-to-register
-shr-to-register c = search needs
-
-to-register-requires : tie.Need-to-register-requires
-to-register-requires c κs = search needs
-
 returns : tie.Need-returns
 returns c =
     let s = c .before .before in
@@ -31,6 +19,4 @@ returns c =
     (shift-fits (s .args .a) m (s .fits .a))
 
 pub sar-spec : {M : Type 1} → statement M
-sar-spec =
-    tie.close
-    (tie.spec to-signed-requires cast-to-register shr-to-register to-register-requires returns)
+sar-spec = tie.close (tie.spec (λ c κs. search needs) (λ c. search needs) (λ c. search needs) (λ c κs. search needs) returns)

@@ -8,12 +8,6 @@ use Rattle.arith.proofs.Registers.{upper}
 use Rattle.arith.proofs.signed.abs.Statement.{statement}
 use Rattle.arith.proofs.signed.abs.Tie as tie
 
-sub-result : tie.Need-sub-result
-sub-result c = search needs
-
-add-result : tie.Need-add-result
-add-result c = search needs
-
 returns : tie.Need-returns
 returns c = rw (toZ-pos w32 {n = c .before .args .a} (c .if1 .taken)) refl
 
@@ -21,4 +15,4 @@ returns-2 : tie.Need-returns-2
 returns-2 c = rw (upper (c .before .args .a) (c .if1 .left)) (omega (arith, c .before .fits .a .fits))
 
 pub abs-spec : {M : Type 1} → statement M
-abs-spec = tie.close (tie.spec sub-result add-result returns returns-2)
+abs-spec = tie.close (tie.spec (λ c. search needs) (λ c. search needs) returns returns-2)

@@ -5,12 +5,6 @@ use Rattle.arith.proofs.Registers.{worked}
 use Rattle.arith.proofs.signed.less.Statement.{statement}
 use Rattle.arith.proofs.signed.less.Tie as tie
 
-to-signed-requires : tie.Need-to-signed-requires
-to-signed-requires c κs = search needs
-
-to-signed-requires-2 : tie.Need-to-signed-requires-2
-to-signed-requires-2 c κs = search needs
-
 returns : tie.Need-returns
 returns c =
     let s = c .before .before in
@@ -19,4 +13,4 @@ returns c =
     (record { fits = s .fits .b; is = c .to-signed2 .ensures })
 
 pub less-spec : {M : Type 1} → statement M
-less-spec = tie.close (tie.spec to-signed-requires to-signed-requires-2 returns)
+less-spec = tie.close (tie.spec (λ c κs. search needs) (λ c κs. search needs) returns)

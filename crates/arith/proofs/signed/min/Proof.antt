@@ -4,9 +4,6 @@ use borrow.Author.Needs.{needs}
 use Rattle.arith.proofs.signed.min.Statement.{statement}
 use Rattle.arith.proofs.signed.min.Tie as tie
 
-less-requires : tie.Need-less-requires
-less-requires c κs = search needs
-
 returns : tie.Need-returns
 returns c = rw (sym (c .before .less .ensures) ∙ c .if1 .taken) refl
 
@@ -14,4 +11,4 @@ returns-2 : tie.Need-returns-2
 returns-2 c = rw (sym (c .before .less .ensures) ∙ c .if1 .left) refl
 
 pub min-spec : {M : Type 1} → statement M
-min-spec = tie.close (tie.spec less-requires returns returns-2)
+min-spec = tie.close (tie.spec (λ c κs. search needs) returns returns-2)

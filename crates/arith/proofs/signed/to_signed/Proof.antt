@@ -9,27 +9,14 @@ use Rattle.arith.proofs.Registers.{upper-made}
 use Rattle.arith.proofs.signed.to_signed.Statement.{statement}
 use Rattle.arith.proofs.signed.to_signed.Tie as tie
 
-cast-result : tie.Need-cast-result
-cast-result c = search needs
-
-sub-result : tie.Need-sub-result
-sub-result c = search needs
-
-cast-result-2 : tie.Need-cast-result-2
-cast-result-2 c = search needs
-
 sub-result-2 : tie.Need-sub-result-2
 sub-result-2 c =
     subst⁻¹ (λ (z : ℤ). SFits w32 z) (upper-made (c .before .args .x) (c .if1 .left) (c .before .fits .x .fits))
     (sfits-toZ (c .before .fits .x))
-
-returns : tie.Need-returns
-returns c = search needs
 
 returns-2 : tie.Need-returns-2
 returns-2 c =
     toZ-ofZ (sub-result-2 c) ∙ upper-made (c .before .args .x) (c .if1 .left) (c .before .fits .x .fits)
 
 pub to-signed-spec : {M : Type 1} → statement M
-to-signed-spec =
-    tie.close (tie.spec cast-result sub-result cast-result-2 sub-result-2 returns returns-2)
+to-signed-spec = tie.close (tie.spec (λ c. search needs) (λ c. search needs) (λ c. search needs) sub-result-2 (λ c. search needs) returns-2)

@@ -5,21 +5,6 @@ use borrow.Author.Needs.{needs}
 use Rattle.blocks.proofs.item.look.Statement.{statement}
 use Rattle.blocks.proofs.item.look.Tie as tie
 
-read-at-requires : tie.Need-read-at-requires
-read-at-requires c κs = search needs
-
-enum-known-answer : tie.Need-enum-known-answer
-enum-known-answer c = search needs
-
-registers-below-requires : tie.Need-registers-below-requires
-registers-below-requires c κs = search needs
-
-item-of-requires : tie.Need-item-of-requires
-item-of-requires c κs = search needs
-
-enum-known-answer-2 : tie.Need-enum-known-answer-2
-enum-known-answer-2 c = search needs
-
 returns : tie.Need-returns
 returns c =
     let a = c .before .before .before .before in
@@ -35,14 +20,6 @@ returns-3 : tie.Need-returns-3
 returns-3 c = sym (seen-refused _ _ _ (sym (c .before .before .before .read-at .ensures) ∙ c .before .answer2 .given .1))
 
 pub look-spec : {M : Type 1} → statement M
-look-spec =
-    tie.close
-    (tie.spec
-    read-at-requires
-    enum-known-answer
-    registers-below-requires
-    item-of-requires
-    enum-known-answer-2
-    returns
-    returns-2
+look-spec = tie.close (tie.spec
+    (λ c κs. search needs) (λ c. search needs) (λ c κs. search needs) (λ c κs. search needs) (λ c. search needs) returns returns-2
     returns-3)

@@ -29,49 +29,13 @@ ready j =
 returns : tie.Need-returns
 returns c = λ o h. stopped (codeOf (c .before .before .args .code .now) (c .before .before .args .registers)) _ o _ (c .if1 .taken)
 
-look-requires : tie.Need-look-requires
-look-requires c κs = search needs
-
-inner-requires : tie.Need-inner-requires
-inner-requires c κs = search needs
-
-sub-room : tie.Need-sub-room
-sub-room c = search needs
-
-judge-requires : tie.Need-judge-requires
-judge-requires c κs = search needs
-
-enum-known-turn : tie.Need-enum-known-turn
-enum-known-turn c = search needs
-
-turned-to-requires : tie.Need-turned-to-requires
-turned-to-requires c κs = search needs
-
 add-t20 : tie.Need-add-t20
 add-t20 c = omega (arith, on-ok (ready (c .before .before .before .before)) (c .before .before .turn .given .1))
-
-enum-told : tie.Need-enum-told
-enum-told c = search needs
-
-popped-requires : tie.Need-popped-requires
-popped-requires c κs = search needs
-
-add-t21 : tie.Need-add-t21
-add-t21 c = search needs
-
-enum-known-turn-2 : tie.Need-enum-known-turn-2
-enum-known-turn-2 c = search needs
 
 pushed-requires : tie.Need-pushed-requires
 pushed-requires c κs =
     let held = c .before .before .before .before .before .before .before .before .pre in
     enter-ok (ready (c .before .before .before)) (c .before .turn2 .given .1) (held .0) (held .1)
-
-add-t22 : tie.Need-add-t22
-add-t22 c = search needs
-
-enum-told-2 : tie.Need-enum-told-2
-enum-told-2 c = search needs
 
 returns-2 : tie.Need-returns-2
 returns-2 c = on (ready (c .before .before .before .before)) (c .turned-to .result) (c .before .before .turn .given .1) (c .turned-to .ensures)
@@ -86,25 +50,7 @@ returns-5 : tie.Need-returns-5
 returns-5 c = stop (ready (c .before .before)) (c .enum-told2 .given .1)
 
 pub advance-spec : {M : Type 1} → statement M
-advance-spec =
-    tie.close
-    (tie.spec
-    returns
-    look-requires
-    inner-requires
-    sub-room
-    judge-requires
-    enum-known-turn
-    turned-to-requires
-    add-t20
-    enum-told
-    popped-requires
-    add-t21
-    enum-known-turn-2
-    pushed-requires
-    add-t22
-    enum-told-2
-    returns-2
-    returns-3
-    returns-4
-    returns-5)
+advance-spec = tie.close (tie.spec
+    returns (λ c κs. search needs) (λ c κs. search needs) (λ c. search needs) (λ c κs. search needs) (λ c. search needs)
+    (λ c κs. search needs) add-t20 (λ c. search needs) (λ c κs. search needs) (λ c. search needs) (λ c. search needs) pushed-requires
+    (λ c. search needs) (λ c. search needs) returns-2 returns-3 returns-4 returns-5)

@@ -9,18 +9,6 @@ use Rattle.blocks.proofs.places.inner.Tie as tie
 returns : tie.Need-returns
 returns c = λ o h. none-inside _ o h (c .if1 .taken)
 
-sub-d : tie.Need-sub-d
-sub-d c = search needs
-
-mul-n : tie.Need-mul-n
-mul-n c = search needs
-
-element-copy-out-n : tie.Need-element-copy-out-n
-element-copy-out-n c = search needs
-
-inside-from-requires : tie.Need-inside-from-requires
-inside-from-requires c κs = search needs
-
 returns-2 : tie.Need-returns-2
 returns-2 c = λ o h. c .inside-from .ensures ∙ some-inside _ o h (c .before .before .before .if1 .left)
 
@@ -28,6 +16,5 @@ returns-3 : tie.Need-returns-3
 returns-3 c = λ o h. absurd (omega (arith, h .depth-is, h .at-most))
 
 pub inner-spec : {M : Type 1} → statement M
-inner-spec =
-    tie.close
-    (tie.spec returns sub-d mul-n element-copy-out-n inside-from-requires returns-2 returns-3)
+inner-spec = tie.close (tie.spec
+    returns (λ c. search needs) (λ c. search needs) (λ c. search needs) (λ c κs. search needs) returns-2 returns-3)

@@ -7,11 +7,8 @@ use borrow.Author.Needs.{needs}
 use Rattle.blocks.proofs.places.not_found.Statement.{statement}
 use Rattle.blocks.proofs.places.not_found.Tie as tie
 
-empty-requires : tie.Need-empty-requires
-empty-requires c κs = search needs
-
 returns : tie.Need-returns
 returns c = ap (λ s. record { found = false; stack = s }) (holds-is _ [] (c .empty .ensures))
 
 pub not-found-spec : {M : Type 1} → statement M
-not-found-spec = tie.close (tie.spec empty-requires returns)
+not-found-spec = tie.close (tie.spec (λ c κs. search needs) returns)

@@ -16,9 +16,6 @@ Inv-loop code registers place s₀ at₀ s at = Walked (codeOf code registers) p
 abbrev μ-loop : tie.MeasureT-loop
 μ-loop code registers place s₀ at₀ s at = place - at
 
-empty-requires : tie.Need-empty-requires Inv-loop μ-loop
-empty-requires c κs = search needs
-
 loop-holds : tie.Need-loop-holds Inv-loop μ-loop
 loop-holds c = record { fits = code-fits (c .before .before .args .code .now) (c .before .before .args .registers); blocks = []; holds = c .empty .ensures; same = refl }
 
@@ -35,16 +32,10 @@ loop-again c =
     let a = c .before .before in
     further (a .before .before .loop .inv) (a .advance .result) (a .before .loop-test .taken) (a .advance .ensures) (c .before .if1 .taken)
 
-not-found-requires : tie.Need-not-found-requires Inv-loop μ-loop
-not-found-requires c κs = search needs
-
 returns : tie.Need-returns Inv-loop μ-loop
 returns c =
     let a = c .before .before in
     c .not-found .ensures ∙ nothing (a .before .before .loop .inv) (a .advance .result) (a .before .loop-test .taken) (a .advance .ensures) (c .before .if1 .left)
-
-not-found-requires-2 : tie.Need-not-found-requires-2 Inv-loop μ-loop
-not-found-requires-2 c κs = search needs
 
 returns-2 : tie.Need-returns-2 Inv-loop μ-loop
 returns-2 c = arrived (c .before .before .loop .inv) (c .if2 .taken)
@@ -53,18 +44,6 @@ returns-3 : tie.Need-returns-3 Inv-loop μ-loop
 returns-3 c = c .not-found2 .ensures ∙ missed (c .before .before .before .loop .inv) (c .before .before .loop-test .left) (c .before .if2 .left)
 
 pub open-at-spec : {M : Type 1} → statement M
-open-at-spec =
-    tie.close
-    (tie.spec
-    Inv-loop
-    μ-loop
-    empty-requires
-    loop-holds
-    advance-requires
-    loop-less
-    loop-again
-    not-found-requires
-    returns
-    not-found-requires-2
-    returns-2
-    returns-3)
+open-at-spec = tie.close (tie.spec
+    Inv-loop μ-loop (λ c κs. search needs) loop-holds advance-requires loop-less loop-again (λ c κs. search needs) returns
+    (λ c κs. search needs) returns-2 returns-3)

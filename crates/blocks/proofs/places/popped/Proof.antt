@@ -8,30 +8,6 @@ use Rattle.blocks.proofs.places.popped.Tie as tie
 returns : tie.Need-returns
 returns c = λ o h. pop-none _ o h (c .if1 .taken)
 
-sub-d : tie.Need-sub-d
-sub-d c = search needs
-
-mul-n : tie.Need-mul-n
-mul-n c = search needs
-
-element-copy-out-n : tie.Need-element-copy-out-n
-element-copy-out-n c = search needs
-
-mul-r : tie.Need-mul-r
-mul-r c = search needs
-
-element-write-r : tie.Need-element-write-r
-element-write-r c = search needs
-
-mul-r-2 : tie.Need-mul-r-2
-mul-r-2 c = search needs
-
-element-write-r-2 : tie.Need-element-write-r-2
-element-write-r-2 c = search needs
-
-sub-r : tie.Need-sub-r
-sub-r c = search needs
-
 returns-2 : tie.Need-returns-2
 returns-2 c = λ o h. pop _ o _ h (c .before .before .before .if1 .left) (pop-loop _ o h (c .before .before .before .if1 .left) (c .before .if2 .taken))
 
@@ -42,18 +18,6 @@ returns-4 : tie.Need-returns-4
 returns-4 c = λ o h. pop _ o _ h (c .before .before .if1 .left) (pop-other _ o h (c .before .before .if1 .left) (c .if2 .left))
 
 pub popped-spec : {M : Type 1} → statement M
-popped-spec =
-    tie.close
-    (tie.spec
-    returns
-    sub-d
-    mul-n
-    element-copy-out-n
-    mul-r
-    element-write-r
-    mul-r-2
-    element-write-r-2
-    sub-r
-    returns-2
-    returns-3
-    returns-4)
+popped-spec = tie.close (tie.spec
+    returns (λ c. search needs) (λ c. search needs) (λ c. search needs) (λ c. search needs) (λ c. search needs) (λ c. search needs)
+    (λ c. search needs) (λ c. search needs) returns-2 returns-3 returns-4)

@@ -7,20 +7,8 @@ use Rattle.blocks.proofs.places.turned_to.Tie as tie
 returns : tie.Need-returns
 returns c = λ o n h t. turn-none _ o n _ h t (c .if1 .taken)
 
-sub-d : tie.Need-sub-d
-sub-d c = search needs
-
-number-requires : tie.Need-number-requires
-number-requires c κs = search needs
-
-mul-r : tie.Need-mul-r
-mul-r c = search needs
-
-element-write-r : tie.Need-element-write-r
-element-write-r c = search needs
-
 returns-2 : tie.Need-returns-2
 returns-2 c = λ o n h t. turn _ o n _ _ h t (c .before .if1 .left) (c .number .ensures)
 
 pub turned-to-spec : {M : Type 1} → statement M
-turned-to-spec = tie.close (tie.spec returns sub-d number-requires mul-r element-write-r returns-2)
+turned-to-spec = tie.close (tie.spec returns (λ c. search needs) (λ c κs. search needs) (λ c. search needs) (λ c. search needs) returns-2)

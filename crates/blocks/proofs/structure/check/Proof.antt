@@ -4,18 +4,6 @@ use borrow.Author.Needs.{needs}
 use Rattle.blocks.proofs.structure.check.Statement.{statement}
 use Rattle.blocks.proofs.structure.check.Tie as tie
 
-level-requires : tie.Need-level-requires
-level-requires c κs = search needs
-
-enum-told : tie.Need-enum-told
-enum-told c = search needs
-
-enum-known-end : tie.Need-enum-known-end
-enum-known-end c = search needs
-
-enum-told-2 : tie.Need-enum-told-2
-enum-told-2 c = search needs
-
 returns : tie.Need-returns
 returns c = absurd (whole-closed (c .before .before .level .ensures) (c .enum-told .given .1))
 
@@ -26,6 +14,5 @@ returns-3 : tie.Need-returns-3
 returns-3 c = whole-ended (c .before .before .level .ensures) (c .enum-told2 .given .1)
 
 pub check-spec : {M : Type 1} → statement M
-check-spec =
-    tie.close
-    (tie.spec level-requires enum-told enum-known-end enum-told-2 returns returns-2 returns-3)
+check-spec = tie.close (tie.spec
+    (λ c κs. search needs) (λ c. search needs) (λ c. search needs) (λ c. search needs) returns returns-2 returns-3)

@@ -4,12 +4,6 @@ use borrow.Author.Needs.{needs}
 use Rattle.captures.proofs.reading.take_parts.Statement.{statement}
 use Rattle.captures.proofs.reading.take_parts.Tie as tie
 
-counts-of-requires : tie.Need-counts-of-requires
-counts-of-requires c κs = search needs
-
-places-of-requires : tie.Need-places-of-requires
-places-of-requires c κs = search needs
-
 -- from where the words of a part are taken, back to where the places are known
 abbrev from-registers : tie.After-take-words-arg2 → tie.After-places-of
 from-registers z = z .before .before .before .before .before
@@ -50,21 +44,6 @@ take-words-requires-5 c κs =
     let at = from-state c in
     room-state _ _ (start at .pre) _ (at .before .counts-of .ensures) _ (at .places-of .ensures)
 
-same-length : tie.Need-same-length
-same-length c = search needs
-
-same-length-2 : tie.Need-same-length-2
-same-length-2 c = search needs
-
-same-length-3 : tie.Need-same-length-3
-same-length-3 c = search needs
-
-same-length-4 : tie.Need-same-length-4
-same-length-4 c = search needs
-
-same-length-5 : tie.Need-same-length-5
-same-length-5 c = search needs
-
 returns : tie.Need-returns
 returns c =
     let state = c .before .before in
@@ -81,19 +60,6 @@ returns c =
     (state .take-words5 .ensures)
 
 pub take-parts-spec : {M : Type 1} → statement M
-take-parts-spec =
-    tie.close
-    (tie.spec
-    counts-of-requires
-    places-of-requires
-    take-words-requires
-    take-words-requires-2
-    take-words-requires-3
-    take-words-requires-4
-    take-words-requires-5
-    same-length
-    same-length-2
-    same-length-3
-    same-length-4
-    same-length-5
-    returns)
+take-parts-spec = tie.close (tie.spec
+    (λ c κs. search needs) (λ c κs. search needs) take-words-requires take-words-requires-2 take-words-requires-3 take-words-requires-4
+    take-words-requires-5 (λ c. search needs) (λ c. search needs) (λ c. search needs) (λ c. search needs) (λ c. search needs) returns)

@@ -4,12 +4,6 @@ use borrow.Author.Needs.{needs}
 use Rattle.captures.proofs.testing.next.Statement.{statement}
 use Rattle.captures.proofs.testing.next.Tie as tie
 
-enum-known-first : tie.Need-enum-known-first
-enum-known-first c = search needs
-
-enum-told : tie.Need-enum-told
-enum-told c = search needs
-
 returns : tie.Need-returns
 returns c = next-broken _ _ _ _ _ _ (c .before .first .given .1)
 
@@ -20,4 +14,4 @@ returns-3 : tie.Need-returns-3
 returns-3 c = next-not _ _ _ _ (c .before .enum-told .given .1) (c .if1 .left)
 
 pub next-spec : {M : Type 1} → statement M
-next-spec = tie.close (tie.spec enum-known-first enum-told returns returns-2 returns-3)
+next-spec = tie.close (tie.spec (λ c. search needs) (λ c. search needs) returns returns-2 returns-3)

@@ -4,21 +4,6 @@ use borrow.Author.Needs.{needs}
 use Rattle.captures.proofs.testing.test_rooms.Statement.{statement}
 use Rattle.captures.proofs.testing.test_rooms.Tie as tie
 
-next-requires : tie.Need-next-requires
-next-requires c κs = search needs
-
-next-requires-2 : tie.Need-next-requires-2
-next-requires-2 c κs = search needs
-
-next-requires-3 : tie.Need-next-requires-3
-next-requires-3 c κs = search needs
-
-next-requires-4 : tie.Need-next-requires-4
-next-requires-4 c κs = search needs
-
-next-requires-5 : tie.Need-next-requires-5
-next-requires-5 c κs = search needs
-
 returns : tie.Need-returns
 returns c =
     let local = c .before .before .before in
@@ -29,12 +14,5 @@ returns c =
     (local .next4 .ensures) (c .next5 .ensures)
 
 pub test-rooms-spec : {M : Type 1} → statement M
-test-rooms-spec =
-    tie.close
-    (tie.spec
-    next-requires
-    next-requires-2
-    next-requires-3
-    next-requires-4
-    next-requires-5
-    returns)
+test-rooms-spec = tie.close (tie.spec
+    (λ c κs. search needs) (λ c κs. search needs) (λ c κs. search needs) (λ c κs. search needs) (λ c κs. search needs) returns)

@@ -30,53 +30,14 @@ cast-t20 c = let k = fitting c .local in omega arith
 cast-t22 : tie.Need-cast-t22
 cast-t22 c = let k = fitting c .state in omega arith
 
-mul-registers-at : tie.Need-mul-registers-at
-mul-registers-at c = search needs
-
-add-registers-at : tie.Need-add-registers-at
-add-registers-at c = search needs
-
-mul-device-at : tie.Need-mul-device-at
-mul-device-at c = search needs
-
 add-device-at : tie.Need-add-device-at
 add-device-at c = let k = fitting c in omega (arith, k .code, k .registers, k .device, k .local)
-
-mul-local-at : tie.Need-mul-local-at
-mul-local-at c = search needs
 
 add-local-at : tie.Need-add-local-at
 add-local-at c = let k = fitting c in omega (arith, k .code, k .registers, k .device, k .local)
 
-mul-state-at : tie.Need-mul-state-at
-mul-state-at c = search needs
-
 add-state-at : tie.Need-add-state-at
 add-state-at c = let k = fitting c in omega (arith, k .code, k .registers, k .device, k .local)
-
-slice-aggregate-give-words : tie.Need-slice-aggregate-give-words
-slice-aggregate-give-words c = search needs
-
-give-words-requires : tie.Need-give-words-requires
-give-words-requires c κs = search needs
-
-give-words-requires-2 : tie.Need-give-words-requires-2
-give-words-requires-2 c κs = search needs
-
-give-words-requires-3 : tie.Need-give-words-requires-3
-give-words-requires-3 c κs = search needs
-
-give-words-requires-4 : tie.Need-give-words-requires-4
-give-words-requires-4 c κs = search needs
-
-give-words-requires-5 : tie.Need-give-words-requires-5
-give-words-requires-5 c κs = search needs
-
-give-words-requires-6 : tie.Need-give-words-requires-6
-give-words-requires-6 c κs = search needs
-
-same-length : tie.Need-same-length
-same-length c = search needs
 
 returns : tie.Need-returns
 unfolding headerOf
@@ -96,28 +57,7 @@ returns c =
     (state .give-words6 .ensures)
 
 pub give-parts-spec : {M : Type 1} → statement M
-give-parts-spec =
-    tie.close
-    (tie.spec
-    cast-t14
-    cast-t16
-    cast-t18
-    cast-t20
-    cast-t22
-    mul-registers-at
-    add-registers-at
-    mul-device-at
-    add-device-at
-    mul-local-at
-    add-local-at
-    mul-state-at
-    add-state-at
-    slice-aggregate-give-words
-    give-words-requires
-    give-words-requires-2
-    give-words-requires-3
-    give-words-requires-4
-    give-words-requires-5
-    give-words-requires-6
-    same-length
-    returns)
+give-parts-spec = tie.close (tie.spec
+    cast-t14 cast-t16 cast-t18 cast-t20 cast-t22 (λ c. search needs) (λ c. search needs) (λ c. search needs) add-device-at
+    (λ c. search needs) add-local-at (λ c. search needs) add-state-at (λ c. search needs) (λ c κs. search needs) (λ c κs. search needs)
+    (λ c κs. search needs) (λ c κs. search needs) (λ c κs. search needs) (λ c κs. search needs) (λ c. search needs) returns)

@@ -27,18 +27,6 @@ same-length c = c .before .before .loop .inv .1
 returns : tie.Need-returns Inv-loop μ-loop
 returns c = sym (placed-out _ _ _ (c .if1 .taken)) ∙ c .before .before .loop .inv .2
 
-mul-put : tie.Need-mul-put Inv-loop μ-loop
-mul-put c = search needs
-
-shared-slice-read-put : tie.Need-shared-slice-read-put Inv-loop μ-loop
-shared-slice-read-put c = search needs
-
-put-requires : tie.Need-put-requires Inv-loop μ-loop
-put-requires c κs = search needs
-
-add-p : tie.Need-add-p Inv-loop μ-loop
-add-p c = search needs
-
 add-k : tie.Need-add-k Inv-loop μ-loop
 add-k c = omega (arith, c .before .before .before .before .before .before .loop-test .taken)
 
@@ -58,20 +46,6 @@ returns-2 : tie.Need-returns-2 Inv-loop μ-loop
 returns-2 c = put-done _ _ _ _ (c .loop-test .left) ∙ c .before .loop .inv .2
 
 pub give-words-spec : {M : Type 1} → statement M
-give-words-spec =
-    tie.close
-    (tie.spec
-    Inv-loop
-    μ-loop
-    loop-holds
-    same-length
-    returns
-    mul-put
-    shared-slice-read-put
-    put-requires
-    add-p
-    add-k
-    loop-less
-    loop-again
-    same-length-2
-    returns-2)
+give-words-spec = tie.close (tie.spec
+    Inv-loop μ-loop loop-holds same-length returns (λ c. search needs) (λ c. search needs) (λ c κs. search needs) (λ c. search needs) add-k
+    loop-less loop-again same-length-2 returns-2)

@@ -8,9 +8,6 @@ use Rattle.captures.proofs.writing.state_fits.Tie as tie
 returns : tie.Need-returns
 returns c = state-short _ (c .if1 .taken)
 
-shared-slice-read-result : tie.Need-shared-slice-read-result
-shared-slice-read-result c = search needs
-
 cast-result : tie.Need-cast-result
 cast-result c = let z = c .shared-slice-known .given 6 in omega arith
 
@@ -24,6 +21,4 @@ returns-2 : tie.Need-returns-2
 returns-2 c = state-long _ (c .before .if1 .left)
 
 pub state-fits-spec : {M : Type 1} → statement M
-state-fits-spec =
-    tie.close
-    (tie.spec returns shared-slice-read-result cast-result mul-result add-result returns-2)
+state-fits-spec = tie.close (tie.spec returns (λ c. search needs) cast-result mul-result add-result returns-2)

@@ -9,23 +9,8 @@ use borrow.Author.Needs.{needs}
 use Rattle.captures.proofs.writing.write.Statement.{statement}
 use Rattle.captures.proofs.writing.write.Tie as tie
 
-state-fits-requires : tie.Need-state-fits-requires
-state-fits-requires c κs = search needs
-
 returns : tie.Need-returns
 returns c = write-not _ _ (sym (fits-so _ _ (c .before .state-fits .ensures)) ∙ not-true _ (c .if1 .taken))
-
-add-words : tie.Need-add-words
-add-words c = search needs
-
-add-words-2 : tie.Need-add-words-2
-add-words-2 c = search needs
-
-add-words-3 : tie.Need-add-words-3
-add-words-3 c = search needs
-
-add-words-4 : tie.Need-add-words-4
-add-words-4 c = search needs
 
 -- the parts that are given
 abbrev parts : tie.Start → Capture
@@ -47,27 +32,12 @@ returns-2 c = write-short _ _ (fitting (c .before)) (c .if2 .taken)
 give-parts-requires : tie.Need-give-parts-requires
 give-parts-requires c κs = fitting (c .before .before)
 
-same-length : tie.Need-same-length
-same-length c = search needs
-
 returns-3 : tie.Need-returns-3
 returns-3 c =
     let room = c .before .before .before .before in
     write-so _ _ _ _ (fitting (room .before)) (sym (length-capture _)) (room .if2 .left) (c .before .before .give-parts .ensures)
 
 pub write-spec : {M : Type 1} → statement M
-write-spec =
-    tie.close
-    (tie.spec
-    state-fits-requires
-    returns
-    add-words
-    add-words-2
-    add-words-3
-    add-words-4
-    mul-total
-    add-total
-    returns-2
-    give-parts-requires
-    same-length
-    returns-3)
+write-spec = tie.close (tie.spec
+    (λ c κs. search needs) returns (λ c. search needs) (λ c. search needs) (λ c. search needs) (λ c. search needs) mul-total add-total
+    returns-2 give-parts-requires (λ c. search needs) returns-3)

@@ -24,27 +24,6 @@ faults-are z =
     z .address-faults .ensures
     ∙ ap (λ (at : List ℕ). addressFaults Space.Device (a .shape .width) at (length (a .device .now)) (a .t)) (z .before .gather .ensures)
 
-gather-requires : tie.Need-gather-requires
-gather-requires c κs = search needs
-
-address-faults-requires : tie.Need-address-faults-requires
-address-faults-requires c κs = search needs
-
-clear-requires : tie.Need-clear-requires
-clear-requires c κs = search needs
-
-change-lanes-requires : tie.Need-change-lanes-requires
-change-lanes-requires c κs = search needs
-
-write-lanes-requires : tie.Need-write-lanes-requires
-write-lanes-requires c κs = search needs
-
-same-length : tie.Need-same-length
-same-length c = search needs
-
-same-length-2 : tie.Need-same-length-2
-same-length-2 c = search needs
-
 returns : tie.Need-returns
 returns c =
     let w = c .before .before in
@@ -63,9 +42,6 @@ returns c =
           ∙ ap (λ (at : List ℕ). changesOf (a .shape .width) at f (a .t) (a .device .now)) (z .before .gather .ensures)),
     )
 
-same-length-3 : tie.Need-same-length-3
-same-length-3 c = search needs
-
 returns-2 : tie.Need-returns-2
 returns-2 c =
     let t = c .before in (
@@ -74,16 +50,6 @@ returns-2 c =
     )
 
 pub carry-change-spec : {M : Type 1} → statement M
-carry-change-spec =
-    tie.close
-    (tie.spec
-    gather-requires
-    address-faults-requires
-    clear-requires
-    change-lanes-requires
-    write-lanes-requires
-    same-length
-    same-length-2
-    returns
-    same-length-3
-    returns-2)
+carry-change-spec = tie.close (tie.spec
+    (λ c κs. search needs) (λ c κs. search needs) (λ c κs. search needs) (λ c κs. search needs) (λ c κs. search needs) (λ c. search needs)
+    (λ c. search needs) returns (λ c. search needs) returns-2)

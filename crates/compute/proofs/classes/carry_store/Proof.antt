@@ -7,29 +7,11 @@ use Rattle.compute.proofs.Settling.{settled-within}
 use Rattle.compute.proofs.classes.carry_store.Statement.{statement}
 use Rattle.compute.proofs.classes.carry_store.Tie as tie
 
-enum-told : tie.Need-enum-told
-enum-told c = search needs
-
-store-through-requires : tie.Need-store-through-requires
-store-through-requires c κs = search needs
-
-enum-told-2 : tie.Need-enum-told-2
-enum-told-2 c = search needs
-
-store-through-requires-2 : tie.Need-store-through-requires-2
-store-through-requires-2 c κs = search needs
-
-same-length : tie.Need-same-length
-same-length c = search needs
-
 returns : tie.Need-returns
 returns c =
     let w = c .before .before in
     let a = w .before .before .before .before .before .before .before .args in
     rw (w .before .before .enum-told .given .1) (settled-within (λ (l : List ℕ). memories l (a .local .now)) (w .store-through .ensures))
-
-same-length-2 : tie.Need-same-length-2
-same-length-2 c = search needs
 
 returns-2 : tie.Need-returns-2
 returns-2 c =
@@ -38,14 +20,6 @@ returns-2 c =
     rw (w .before .before .enum-told2 .given .1) (settled-within (memories (a .device .now)) (w .store-through2 .ensures))
 
 pub carry-store-spec : {M : Type 1} → statement M
-carry-store-spec =
-    tie.close
-    (tie.spec
-    enum-told
-    store-through-requires
-    enum-told-2
-    store-through-requires-2
-    same-length
-    returns
-    same-length-2
+carry-store-spec = tie.close (tie.spec
+    (λ c. search needs) (λ c κs. search needs) (λ c. search needs) (λ c κs. search needs) (λ c. search needs) returns (λ c. search needs)
     returns-2)

@@ -8,18 +8,6 @@ use Rattle.compute.proofs.Settling.{settled-as}
 use Rattle.compute.proofs.classes.carry_two.Statement.{statement}
 use Rattle.compute.proofs.classes.carry_two.Tie as tie
 
-divisor-faults-requires : tie.Need-divisor-faults-requires
-divisor-faults-requires c κs = search needs
-
-two-results-requires : tie.Need-two-results-requires
-two-results-requires c κs = search needs
-
-write-results-requires : tie.Need-write-results-requires
-write-results-requires c κs = search needs
-
-same-length : tie.Need-same-length
-same-length c = search needs
-
 returns : tie.Need-returns
 returns c =
     let w = c .before .before in
@@ -30,11 +18,4 @@ returns c =
     (ap (λ (l : List ℕ). writeLanes (a .shape) (a .regs .now) (a .rd) (a .t) l) (v .two-results .ensures))
 
 pub carry-two-spec : {M : Type 1} → statement M
-carry-two-spec =
-    tie.close
-    (tie.spec
-    divisor-faults-requires
-    two-results-requires
-    write-results-requires
-    same-length
-    returns)
+carry-two-spec = tie.close (tie.spec (λ c κs. search needs) (λ c κs. search needs) (λ c κs. search needs) (λ c. search needs) returns)

@@ -5,25 +5,10 @@ use Rattle.compute.proofs.Settling.{settled-as}
 use Rattle.compute.proofs.classes.carry_value.Statement.{statement}
 use Rattle.compute.proofs.classes.carry_value.Tie as tie
 
-no-faults-requires : tie.Need-no-faults-requires
-no-faults-requires c κs = search needs
-
-write-results-requires : tie.Need-write-results-requires
-write-results-requires c κs = search needs
-
-same-length : tie.Need-same-length
-same-length c = search needs
-
 returns : tie.Need-returns
 returns c =
     let w = c .before .before in
     settled-as (w .write-results .ensures) _ _ (w .before .before .no-faults .ensures) refl
 
 pub carry-value-spec : {M : Type 1} → statement M
-carry-value-spec =
-    tie.close
-    (tie.spec
-    no-faults-requires
-    write-results-requires
-    same-length
-    returns)
+carry-value-spec = tie.close (tie.spec (λ c κs. search needs) (λ c κs. search needs) (λ c. search needs) returns)

@@ -11,21 +11,6 @@ use Rattle.compute.proofs.Settling.{settled-as}
 use Rattle.compute.proofs.classes.load_through.Statement.{statement}
 use Rattle.compute.proofs.classes.load_through.Tie as tie
 
-addresses-requires : tie.Need-addresses-requires
-addresses-requires c κs = search needs
-
-address-faults-requires : tie.Need-address-faults-requires
-address-faults-requires c κs = search needs
-
-load-lanes-requires : tie.Need-load-lanes-requires
-load-lanes-requires c κs = search needs
-
-write-results-requires : tie.Need-write-results-requires
-write-results-requires c κs = search needs
-
-same-length : tie.Need-same-length
-same-length c = search needs
-
 returns : tie.Need-returns
 returns c =
     let w = c .before .before in
@@ -40,12 +25,5 @@ returns c =
     (v .load-lanes .ensures ∙ ap (λ (at : List ℕ). loadLanes (a .shape .width) at (a .memory .now)) (z .addresses .ensures)))
 
 pub load-through-spec : {M : Type 1} → statement M
-load-through-spec =
-    tie.close
-    (tie.spec
-    addresses-requires
-    address-faults-requires
-    load-lanes-requires
-    write-results-requires
-    same-length
-    returns)
+load-through-spec = tie.close (tie.spec
+    (λ c κs. search needs) (λ c κs. search needs) (λ c κs. search needs) (λ c κs. search needs) (λ c. search needs) returns)

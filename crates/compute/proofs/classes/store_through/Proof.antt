@@ -21,21 +21,6 @@ faults-are z =
     z .address-faults .ensures
     ∙ ap (λ (at : List ℕ). addressFaults (a .space) (a .shape .width) at (length (a .memory .now)) (a .t)) (z .before .addresses .ensures)
 
-addresses-requires : tie.Need-addresses-requires
-addresses-requires c κs = search needs
-
-address-faults-requires : tie.Need-address-faults-requires
-address-faults-requires c κs = search needs
-
-clear-requires : tie.Need-clear-requires
-clear-requires c κs = search needs
-
-store-lanes-requires : tie.Need-store-lanes-requires
-store-lanes-requires c κs = search needs
-
-same-length : tie.Need-same-length
-same-length c = search needs
-
 returns : tie.Need-returns
 returns c =
     let w = c .before .before in
@@ -51,13 +36,5 @@ returns-2 : tie.Need-returns-2
 returns-2 c = settled-same _ _ _ (faults-are (c .before .before)) (c .before .clear .ensures) _ _ (c .if1 .left)
 
 pub store-through-spec : {M : Type 1} → statement M
-store-through-spec =
-    tie.close
-    (tie.spec
-    addresses-requires
-    address-faults-requires
-    clear-requires
-    store-lanes-requires
-    same-length
-    returns
-    returns-2)
+store-through-spec = tie.close (tie.spec
+    (λ c κs. search needs) (λ c κs. search needs) (λ c κs. search needs) (λ c κs. search needs) (λ c. search needs) returns returns-2)

@@ -5,15 +5,6 @@ use Rattle.compute.proofs.Settling.{settled-changed, settled-same}
 use Rattle.compute.proofs.classes.write_results.Statement.{statement}
 use Rattle.compute.proofs.classes.write_results.Tie as tie
 
-clear-requires : tie.Need-clear-requires
-clear-requires c κs = search needs
-
-write-lanes-requires : tie.Need-write-lanes-requires
-write-lanes-requires c κs = search needs
-
-same-length : tie.Need-same-length
-same-length c = search needs
-
 returns : tie.Need-returns
 returns c =
     let w = c .before .before in
@@ -24,11 +15,4 @@ returns-2 : tie.Need-returns-2
 returns-2 c = settled-same _ _ _ refl (c .before .clear .ensures) _ _ (c .if1 .left)
 
 pub write-results-spec : {M : Type 1} → statement M
-write-results-spec =
-    tie.close
-    (tie.spec
-    clear-requires
-    write-lanes-requires
-    same-length
-    returns
-    returns-2)
+write-results-spec = tie.close (tie.spec (λ c κs. search needs) (λ c κs. search needs) (λ c. search needs) returns returns-2)

@@ -30,15 +30,6 @@ inside-second z = slot-in (z .before .before .before .before .before .pre .1) _ 
 loop-holds : tie.Need-loop-holds Inv-loop μ-loop
 loop-holds c = filled-none _ (c .before .pre .0 .narrow)
 
-slot-requires : tie.Need-slot-requires Inv-loop μ-loop
-slot-requires c κs = search needs
-
-slot-requires-2 : tie.Need-slot-requires-2 Inv-loop μ-loop
-slot-requires-2 c κs = search needs
-
-cast-k : tie.Need-cast-k Inv-loop μ-loop
-cast-k c = omega arith
-
 mul-compare : tie.Need-mul-compare Inv-loop μ-loop
 mul-compare c = let h = inside c in omega arith
 
@@ -50,24 +41,6 @@ mul-compare-2 c = let h = inside-second (c .before) in omega arith
 
 shared-slice-read-compare-2 : tie.Need-shared-slice-read-compare-2 Inv-loop μ-loop
 shared-slice-read-compare-2 c = inside-second (c .before .before)
-
-compare-requires : tie.Need-compare-requires Inv-loop μ-loop
-compare-requires c κs = search needs
-
-chosen-requires : tie.Need-chosen-requires Inv-loop μ-loop
-chosen-requires c κs = search needs
-
-mul-out : tie.Need-mul-out Inv-loop μ-loop
-mul-out c = omega arith
-
-array-write-out : tie.Need-array-write-out Inv-loop μ-loop
-array-write-out c = omega arith
-
-add-i : tie.Need-add-i Inv-loop μ-loop
-add-i c = omega arith
-
-loop-less : tie.Need-loop-less Inv-loop μ-loop
-loop-less c = omega arith
 
 loop-again : tie.Need-loop-again Inv-loop μ-loop
 loop-again c =
@@ -82,24 +55,7 @@ unfolding compareLanes
 returns c = filled-all (c .before .loop .inv) (omega arith)
 
 pub compare-lanes-spec : {M : Type 1} → statement M
-compare-lanes-spec =
-    tie.close
-    (tie.spec
-    Inv-loop
-    μ-loop
-    loop-holds
-    slot-requires
-    slot-requires-2
-    cast-k
-    mul-compare
-    shared-slice-read-compare
-    mul-compare-2
-    shared-slice-read-compare-2
-    compare-requires
-    chosen-requires
-    mul-out
-    array-write-out
-    add-i
-    loop-less
-    loop-again
-    returns)
+compare-lanes-spec = tie.close (tie.spec
+    Inv-loop μ-loop loop-holds (λ c κs. search needs) (λ c κs. search needs) (λ c. omega arith) mul-compare shared-slice-read-compare
+    mul-compare-2 shared-slice-read-compare-2 (λ c κs. search needs) (λ c κs. search needs) (λ c. omega arith) (λ c. omega arith)
+    (λ c. omega arith) (λ c. omega arith) loop-again returns)

@@ -21,15 +21,6 @@ word-low z i = let f : Fits w32 (getD (z .args .at) i 0) = search needs in omega
 wide : (z : tie.Start) → z .args .width ≤ length (z .args .at)
 wide z = let e : length (z .args .at) ≡ widest = search needs in omega (arith, e, z .pre)
 
-nameable-requires : tie.Need-nameable-requires
-nameable-requires c κs = search needs
-
-all-reach-requires : tie.Need-all-reach-requires
-all-reach-requires c κs = search needs
-
-no-faults-requires : tie.Need-no-faults-requires
-no-faults-requires c κs = search needs
-
 returns : tie.Need-returns
 returns c =
     let b = c .before in
@@ -39,15 +30,6 @@ returns c =
     c .no-faults .ensures
     ∙ all-in-reach (a .space) (a .width) (a .t) (a .words) (n .nameable .result) (a .at) (n .nameable .ensures) (word-low z) (wide z)
     (sym (b .before .all-reach .ensures) ∙ b .if1 .taken)
-
-reach-requires : tie.Need-reach-requires
-reach-requires c κs = search needs
-
-enum-told : tie.Need-enum-told
-enum-told c = search needs
-
-enum-told-2 : tie.Need-enum-told-2
-enum-told-2 c = search needs
 
 returns-2 : tie.Need-returns-2
 returns-2 c =
@@ -70,15 +52,6 @@ returns-3 c =
     (h .reach .ensures .1 ∙ past-same (a .width) (a .t) (a .words) _ (a .at) (n .nameable .ensures) (word-low z)))
 
 pub address-faults-spec : {M : Type 1} → statement M
-address-faults-spec =
-    tie.close
-    (tie.spec
-    nameable-requires
-    all-reach-requires
-    no-faults-requires
-    returns
-    reach-requires
-    enum-told
-    enum-told-2
-    returns-2
-    returns-3)
+address-faults-spec = tie.close (tie.spec
+    (λ c κs. search needs) (λ c κs. search needs) (λ c κs. search needs) returns (λ c κs. search needs) (λ c. search needs)
+    (λ c. search needs) returns-2 returns-3)

@@ -20,21 +20,6 @@ abbrev μ-loop : tie.MeasureT-loop
 loop-holds : tie.Need-loop-holds Inv-loop μ-loop
 loop-holds c = refl
 
-mul-address : tie.Need-mul-address Inv-loop μ-loop
-mul-address c = omega arith
-
-array-read-address : tie.Need-array-read-address Inv-loop μ-loop
-array-read-address c = omega arith
-
-past-end-requires : tie.Need-past-end-requires Inv-loop μ-loop
-past-end-requires c κs = search needs
-
-add-k : tie.Need-add-k Inv-loop μ-loop
-add-k c = omega arith
-
-loop-less : tie.Need-loop-less Inv-loop μ-loop
-loop-less c = omega arith
-
 loop-again : tie.Need-loop-again Inv-loop μ-loop
 loop-again c =
     let h = c .before .before .loop in
@@ -49,16 +34,6 @@ returns c =
     asked-all (inReach (a .words)) (a .t1) (h .k) (h .all) (search needs) (h .inv)
 
 pub all-reach-spec : {M : Type 1} → statement M
-all-reach-spec =
-    tie.close
-    (tie.spec
-    Inv-loop
-    μ-loop
-    loop-holds
-    mul-address
-    array-read-address
-    past-end-requires
-    add-k
-    loop-less
-    loop-again
-    returns)
+all-reach-spec = tie.close (tie.spec
+    Inv-loop μ-loop loop-holds (λ c. omega arith) (λ c. omega arith) (λ c κs. search needs) (λ c. omega arith) (λ c. omega arith)
+    loop-again returns)

@@ -7,21 +7,12 @@ use Rattle.compute.proofs.FaultKinds.{divisor-kinds, undivided-kinds}
 use Rattle.compute.proofs.faulting.divisor_faults.Statement.{statement}
 use Rattle.compute.proofs.faulting.divisor_faults.Tie as tie
 
-divides-requires : tie.Need-divides-requires
-divides-requires c κs = search needs
-
-zero-lanes-requires : tie.Need-zero-lanes-requires
-zero-lanes-requires c κs = search needs
-
 returns : tie.Need-returns
 returns c =
     let z = c .before .before in
     let a = z .before .before .args in
     divisor-kinds (a .shape .width) (a .t) (a .op) (λ i. getD (gatherOf (a .shape) (a .regs .now) (a .rs2)) i 0) _ (c .zero-lanes .ensures)
     (sym (z .divides .ensures) ∙ c .before .if1 .taken)
-
-no-faults-requires : tie.Need-no-faults-requires
-no-faults-requires c κs = search needs
 
 returns-2 : tie.Need-returns-2
 returns-2 c =
@@ -32,11 +23,4 @@ returns-2 c =
     (sym (z .divides .ensures) ∙ c .before .if1 .left)
 
 pub divisor-faults-spec : {M : Type 1} → statement M
-divisor-faults-spec =
-    tie.close
-    (tie.spec
-    divides-requires
-    zero-lanes-requires
-    returns
-    no-faults-requires
-    returns-2)
+divisor-faults-spec = tie.close (tie.spec (λ c κs. search needs) (λ c κs. search needs) returns (λ c κs. search needs) returns-2)

@@ -22,35 +22,14 @@ abbrev μ-loop : tie.MeasureT-loop
 loop-holds : tie.Need-loop-holds Inv-loop μ-loop
 loop-holds c = (marked-none _, marked-none _)
 
-cast-k : tie.Need-cast-k Inv-loop μ-loop
-cast-k c = omega arith
-
-mul-address : tie.Need-mul-address Inv-loop μ-loop
-mul-address c = omega arith
-
 array-read-address : tie.Need-array-read-address Inv-loop μ-loop
 array-read-address c = omega (arith, c .before .before .pre)
 
 marked-requires : tie.Need-marked-requires Inv-loop μ-loop
 marked-requires c κs = omega (arith, c .before .before .pre)
 
-union-requires : tie.Need-union-requires Inv-loop μ-loop
-union-requires c κs = search needs
-
-past-end-requires : tie.Need-past-end-requires Inv-loop μ-loop
-past-end-requires c κs = search needs
-
 marked-requires-2 : tie.Need-marked-requires-2 Inv-loop μ-loop
 marked-requires-2 c κs = omega (arith, c .before .before .before .before .before .pre)
-
-union-requires-2 : tie.Need-union-requires-2 Inv-loop μ-loop
-union-requires-2 c κs = search needs
-
-add-i : tie.Need-add-i Inv-loop μ-loop
-add-i c = omega arith
-
-loop-less : tie.Need-loop-less Inv-loop μ-loop
-loop-less c = omega arith
 
 loop-again : tie.Need-loop-again Inv-loop μ-loop
 loop-again c =
@@ -68,21 +47,6 @@ returns : tie.Need-returns Inv-loop μ-loop
 returns c = (marked-all (c .before .loop .inv .0) (omega arith), marked-all (c .before .loop .inv .1) (omega arith))
 
 pub reach-spec : {M : Type 1} → statement M
-reach-spec =
-    tie.close
-    (tie.spec
-    Inv-loop
-    μ-loop
-    loop-holds
-    cast-k
-    mul-address
-    array-read-address
-    marked-requires
-    union-requires
-    past-end-requires
-    marked-requires-2
-    union-requires-2
-    add-i
-    loop-less
-    loop-again
-    returns)
+reach-spec = tie.close (tie.spec
+    Inv-loop μ-loop loop-holds (λ c. omega arith) (λ c. omega arith) array-read-address marked-requires (λ c κs. search needs)
+    (λ c κs. search needs) marked-requires-2 (λ c κs. search needs) (λ c. omega arith) (λ c. omega arith) loop-again returns)

@@ -28,9 +28,6 @@ inside z = slot-in (z .before .before .before .before .pre) _ _ (z .slot .ensure
 loop-holds : tie.Need-loop-holds Inv-loop μ-loop
 loop-holds c = marked-none _
 
-slot-requires : tie.Need-slot-requires Inv-loop μ-loop
-slot-requires c κs = search needs
-
 mul-marked : tie.Need-mul-marked Inv-loop μ-loop
 mul-marked c = let h = inside c in omega arith
 
@@ -39,15 +36,6 @@ shared-slice-read-marked c = inside (c .before)
 
 marked-requires : tie.Need-marked-requires Inv-loop μ-loop
 marked-requires c κs = omega (arith, c .before .before .before .before .before .pre .narrow)
-
-union-requires : tie.Need-union-requires Inv-loop μ-loop
-union-requires c κs = search needs
-
-add-i : tie.Need-add-i Inv-loop μ-loop
-add-i c = omega arith
-
-loop-less : tie.Need-loop-less Inv-loop μ-loop
-loop-less c = omega arith
 
 loop-again : tie.Need-loop-again Inv-loop μ-loop
 loop-again c =
@@ -63,18 +51,6 @@ returns : tie.Need-returns Inv-loop μ-loop
 returns c = marked-all (c .before .loop .inv) (omega arith)
 
 pub zero-lanes-spec : {M : Type 1} → statement M
-zero-lanes-spec =
-    tie.close
-    (tie.spec
-    Inv-loop
-    μ-loop
-    loop-holds
-    slot-requires
-    mul-marked
-    shared-slice-read-marked
-    marked-requires
-    union-requires
-    add-i
-    loop-less
-    loop-again
-    returns)
+zero-lanes-spec = tie.close (tie.spec
+    Inv-loop μ-loop loop-holds (λ c κs. search needs) mul-marked shared-slice-read-marked marked-requires (λ c κs. search needs)
+    (λ c. omega arith) (λ c. omega arith) loop-again returns)

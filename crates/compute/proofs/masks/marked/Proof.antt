@@ -5,9 +5,6 @@ use Rattle.lanes.proofs.Picking.{marks-one, marks-none}
 use Rattle.compute.proofs.masks.marked.Statement.{statement}
 use Rattle.compute.proofs.masks.marked.Tie as tie
 
-shl-result : tie.Need-shl-result
-shl-result c = search needs
-
 returns : tie.Need-returns
 returns c = let a = c .before .args in marks-one widest (a .set) (a .lane) (a .test) (c .before .pre) (c .if1 .taken)
 
@@ -15,4 +12,4 @@ returns-2 : tie.Need-returns-2
 returns-2 c = let a = c .before .args in marks-none (a .set) (a .lane) (a .test) (c .if1 .left)
 
 pub marked-spec : {M : Type 1} → statement M
-marked-spec = tie.close (tie.spec shl-result returns returns-2)
+marked-spec = tie.close (tie.spec (λ c. search needs) returns returns-2)

@@ -5,11 +5,8 @@ use Rattle.lanes.proofs.Picking.{picks-one}
 use Rattle.compute.proofs.masks.picks.Statement.{statement}
 use Rattle.compute.proofs.masks.picks.Tie as tie
 
-shl-result : tie.Need-shl-result
-shl-result c = search needs
-
 returns : tie.Need-returns
 returns c = picks-one widest (c .args .set) (c .args .lane) (c .pre)
 
 pub picks-spec : {M : Type 1} → statement M
-picks-spec = tie.close (tie.spec shl-result returns)
+picks-spec = tie.close (tie.spec (λ c. search needs) returns)

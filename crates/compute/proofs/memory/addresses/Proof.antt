@@ -23,32 +23,11 @@ inside z = slot-in (z .before .before .before .before .pre) _ _ (z .slot .ensure
 loop-holds : tie.Need-loop-holds Inv-loop μ-loop
 loop-holds c = filled-none _ (c .before .pre .narrow)
 
-slot-requires : tie.Need-slot-requires Inv-loop μ-loop
-slot-requires c κs = search needs
-
-cast-k : tie.Need-cast-k Inv-loop μ-loop
-cast-k c = omega arith
-
 mul-address : tie.Need-mul-address Inv-loop μ-loop
 mul-address c = let h = inside c in omega arith
 
 shared-slice-read-address : tie.Need-shared-slice-read-address Inv-loop μ-loop
 shared-slice-read-address c = inside (c .before)
-
-address-requires : tie.Need-address-requires Inv-loop μ-loop
-address-requires c κs = search needs
-
-mul-out : tie.Need-mul-out Inv-loop μ-loop
-mul-out c = omega arith
-
-array-write-out : tie.Need-array-write-out Inv-loop μ-loop
-array-write-out c = omega arith
-
-add-i : tie.Need-add-i Inv-loop μ-loop
-add-i c = omega arith
-
-loop-less : tie.Need-loop-less Inv-loop μ-loop
-loop-less c = omega arith
 
 loop-again : tie.Need-loop-again Inv-loop μ-loop
 loop-again c =
@@ -61,20 +40,6 @@ returns : tie.Need-returns Inv-loop μ-loop
 returns c = filled-all (c .before .loop .inv) (omega arith)
 
 pub addresses-spec : {M : Type 1} → statement M
-addresses-spec =
-    tie.close
-    (tie.spec
-    Inv-loop
-    μ-loop
-    loop-holds
-    slot-requires
-    cast-k
-    mul-address
-    shared-slice-read-address
-    address-requires
-    mul-out
-    array-write-out
-    add-i
-    loop-less
-    loop-again
-    returns)
+addresses-spec = tie.close (tie.spec
+    Inv-loop μ-loop loop-holds (λ c κs. search needs) (λ c. omega arith) mul-address shared-slice-read-address (λ c κs. search needs)
+    (λ c. omega arith) (λ c. omega arith) (λ c. omega arith) (λ c. omega arith) loop-again returns)

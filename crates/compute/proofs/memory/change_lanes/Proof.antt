@@ -31,12 +31,6 @@ here z =
     let a = z .before .before .before .before .before .before .before in
     waiting-lowest (z .before .before .loop .inv .waiting) widest _ (a .pre .0 .narrow) (omega arith) (z .lowest .ensures)
 
-first-requires : tie.Need-first-requires Inv-loop μ-loop
-first-requires c κs = search needs
-
-meet-requires : tie.Need-meet-requires Inv-loop μ-loop
-meet-requires c κs = search needs
-
 loop-holds : tie.Need-loop-holds Inv-loop μ-loop
 loop-holds c =
     let a = c .before .before .before .before in
@@ -58,26 +52,11 @@ inside-second z =
     slot-in (z .before .before .before .before .before .before .before .before .before .pre .1) _ _ (z .slot2 .ensures)
     (here (z .before .before) .low)
 
-lowest-requires : tie.Need-lowest-requires Inv-loop μ-loop
-lowest-requires c κs = search needs
-
-slot-requires : tie.Need-slot-requires Inv-loop μ-loop
-slot-requires c κs = search needs
-
-slot-requires-2 : tie.Need-slot-requires-2 Inv-loop μ-loop
-slot-requires-2 c κs = search needs
-
-cast-k : tie.Need-cast-k Inv-loop μ-loop
-cast-k c = omega arith
-
 mul-word : tie.Need-mul-word Inv-loop μ-loop
 mul-word c = omega (arith, narrow (c .before .before .before))
 
 array-read-word : tie.Need-array-read-word Inv-loop μ-loop
 array-read-word c = omega (arith, narrow (c .before .before .before))
-
-word-requires : tie.Need-word-requires Inv-loop μ-loop
-word-requires c κs = search needs
 
 mul-changed : tie.Need-mul-changed Inv-loop μ-loop
 mul-changed c = let h = inside (c .before .before) in omega arith
@@ -91,17 +70,11 @@ mul-changed-2 c = let h = inside-second (c .before .before .before) in omega ari
 shared-slice-read-changed-2 : tie.Need-shared-slice-read-changed-2 Inv-loop μ-loop
 shared-slice-read-changed-2 c = inside-second (c .before .before .before .before)
 
-changed-requires : tie.Need-changed-requires Inv-loop μ-loop
-changed-requires c κs = search needs
-
 mul-put-word : tie.Need-mul-put-word Inv-loop μ-loop
 mul-put-word c = omega (arith, narrow (c .before .before .before .before .before .before .before .before))
 
 array-read-put-word : tie.Need-array-read-put-word Inv-loop μ-loop
 array-read-put-word c = omega (arith, narrow (c .before .before .before .before .before .before .before .before))
-
-put-word-requires : tie.Need-put-word-requires Inv-loop μ-loop
-put-word-requires c κs = search needs
 
 mul-out : tie.Need-mul-out Inv-loop μ-loop
 mul-out c = omega (arith, narrow (c .before .before .before .before .before .before .before .before .before .before .before))
@@ -111,9 +84,6 @@ array-write-out c = omega (arith, narrow (c .before .before .before .before .bef
 
 marked-requires : tie.Need-marked-requires Inv-loop μ-loop
 marked-requires c κs = narrow (c .before .before .before .before .before .before .before .before .before .before .before)
-
-without-requires : tie.Need-without-requires Inv-loop μ-loop
-without-requires c κs = search needs
 
 loop-less : tie.Need-loop-less Inv-loop μ-loop
 loop-less c =
@@ -145,34 +115,8 @@ returns : tie.Need-returns Inv-loop μ-loop
 returns c = walked-all _ (c .before .loop .inv) (omega arith)
 
 pub change-lanes-spec : {M : Type 1} → statement M
-change-lanes-spec =
-    tie.close
-    (tie.spec
-    Inv-loop
-    μ-loop
-    first-requires
-    meet-requires
-    loop-holds
-    lowest-requires
-    slot-requires
-    slot-requires-2
-    cast-k
-    mul-word
-    array-read-word
-    word-requires
-    mul-changed
-    shared-slice-read-changed
-    mul-changed-2
-    shared-slice-read-changed-2
-    changed-requires
-    mul-put-word
-    array-read-put-word
-    put-word-requires
-    mul-out
-    array-write-out
-    marked-requires
-    without-requires
-    loop-less
-    loop-again
-    same-length
-    returns)
+change-lanes-spec = tie.close (tie.spec
+    Inv-loop μ-loop (λ c κs. search needs) (λ c κs. search needs) loop-holds (λ c κs. search needs) (λ c κs. search needs)
+    (λ c κs. search needs) (λ c. omega arith) mul-word array-read-word (λ c κs. search needs) mul-changed shared-slice-read-changed
+    mul-changed-2 shared-slice-read-changed-2 (λ c κs. search needs) mul-put-word array-read-put-word (λ c κs. search needs) mul-out
+    array-write-out marked-requires (λ c κs. search needs) loop-less loop-again same-length returns)

@@ -3,18 +3,6 @@ use borrow.Author.Needs.{needs}
 use Rattle.compute.proofs.memory.changed.Statement.{statement}
 use Rattle.compute.proofs.memory.changed.Tie as tie
 
-enum-known-change : tie.Need-enum-known-change
-enum-known-change c = search needs
-
-atomic-requires : tie.Need-atomic-requires
-atomic-requires c κs = search needs
-
-enum-told : tie.Need-enum-told
-enum-told c = search needs
-
-swap-requires : tie.Need-swap-requires
-swap-requires c κs = search needs
-
 returns : tie.Need-returns
 returns c = rw (c .before .before .change .given .1) (c .atomic .ensures)
 
@@ -22,12 +10,4 @@ returns-2 : tie.Need-returns-2
 returns-2 c = rw (c .before .enum-told .given .1) (c .swap .ensures)
 
 pub changed-spec : {M : Type 1} → statement M
-changed-spec =
-    tie.close
-    (tie.spec
-    enum-known-change
-    atomic-requires
-    enum-told
-    swap-requires
-    returns
-    returns-2)
+changed-spec = tie.close (tie.spec (λ c. search needs) (λ c κs. search needs) (λ c. search needs) (λ c κs. search needs) returns returns-2)

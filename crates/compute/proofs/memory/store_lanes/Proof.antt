@@ -31,15 +31,6 @@ inside z = slot-in (z .before .before .before .before .before .pre) _ _ (z .slot
 loop-holds : tie.Need-loop-holds Inv-loop μ-loop
 loop-holds c = turned-none _ _
 
-slot-requires : tie.Need-slot-requires Inv-loop μ-loop
-slot-requires c κs = search needs
-
-cast-k : tie.Need-cast-k Inv-loop μ-loop
-cast-k c = omega arith
-
-mul-put-picked : tie.Need-mul-put-picked Inv-loop μ-loop
-mul-put-picked c = omega arith
-
 array-read-put-picked : tie.Need-array-read-put-picked Inv-loop μ-loop
 array-read-put-picked c = omega (arith, c .before .before .before .before .before .before .pre .narrow)
 
@@ -51,15 +42,6 @@ shared-slice-read-put-picked c = inside (c .before .before)
 
 picks-requires : tie.Need-picks-requires Inv-loop μ-loop
 picks-requires c κs = omega (arith, c .before .before .before .before .before .before .before .pre .narrow)
-
-put-picked-requires : tie.Need-put-picked-requires Inv-loop μ-loop
-put-picked-requires c κs = search needs
-
-add-i : tie.Need-add-i Inv-loop μ-loop
-add-i c = omega arith
-
-loop-less : tie.Need-loop-less Inv-loop μ-loop
-loop-less c = omega arith
 
 loop-again : tie.Need-loop-again Inv-loop μ-loop
 loop-again c =
@@ -81,22 +63,6 @@ unfolding changesOf
 returns c = turned-all (c .before .loop .inv) (omega arith)
 
 pub store-lanes-spec : {M : Type 1} → statement M
-store-lanes-spec =
-    tie.close
-    (tie.spec
-    Inv-loop
-    μ-loop
-    loop-holds
-    slot-requires
-    cast-k
-    mul-put-picked
-    array-read-put-picked
-    mul-put-picked-2
-    shared-slice-read-put-picked
-    picks-requires
-    put-picked-requires
-    add-i
-    loop-less
-    loop-again
-    same-length
-    returns)
+store-lanes-spec = tie.close (tie.spec
+    Inv-loop μ-loop loop-holds (λ c κs. search needs) (λ c. omega arith) (λ c. omega arith) array-read-put-picked mul-put-picked-2
+    shared-slice-read-put-picked picks-requires (λ c κs. search needs) (λ c. omega arith) (λ c. omega arith) loop-again same-length returns)

@@ -5,27 +5,8 @@ use borrow.Author.Needs.{needs}
 use Rattle.compute.proofs.memory.word.Statement.{statement}
 use Rattle.compute.proofs.memory.word.Tie as tie
 
-cast-k : tie.Need-cast-k
-cast-k c = search needs
-
-mul-result : tie.Need-mul-result
-mul-result c = search needs
-
-shared-slice-read-result : tie.Need-shared-slice-read-result
-shared-slice-read-result c = search needs
-
-returns : tie.Need-returns
-returns c = search needs
-
 returns-2 : tie.Need-returns-2
 returns-2 c = sym (List·getD-eq-default (c .before .args .memory .now) 0 (c .if1 .left))
 
 pub word-spec : {M : Type 1} → statement M
-word-spec =
-    tie.close
-    (tie.spec
-    cast-k
-    mul-result
-    shared-slice-read-result
-    returns
-    returns-2)
+word-spec = tie.close (tie.spec (λ c. search needs) (λ c. search needs) (λ c. search needs) (λ c. search needs) returns-2)

@@ -3,36 +3,6 @@ use borrow.Author.Needs.{needs}
 use Rattle.compute.proofs.one_operand.one_results.Statement.{statement}
 use Rattle.compute.proofs.one_operand.one_results.Tie as tie
 
-enum-told : tie.Need-enum-told
-enum-told c = search needs
-
-neg-lanes-requires : tie.Need-neg-lanes-requires
-neg-lanes-requires c κs = search needs
-
-enum-told-2 : tie.Need-enum-told-2
-enum-told-2 c = search needs
-
-abs-lanes-requires : tie.Need-abs-lanes-requires
-abs-lanes-requires c κs = search needs
-
-enum-told-3 : tie.Need-enum-told-3
-enum-told-3 c = search needs
-
-not-lanes-requires : tie.Need-not-lanes-requires
-not-lanes-requires c κs = search needs
-
-enum-told-4 : tie.Need-enum-told-4
-enum-told-4 c = search needs
-
-popcnt-lanes-requires : tie.Need-popcnt-lanes-requires
-popcnt-lanes-requires c κs = search needs
-
-enum-told-5 : tie.Need-enum-told-5
-enum-told-5 c = search needs
-
-mov-lanes-requires : tie.Need-mov-lanes-requires
-mov-lanes-requires c κs = search needs
-
 returns : tie.Need-returns
 returns c = rw (c .before .enum-told .given .1) (c .neg-lanes .ensures)
 
@@ -49,21 +19,6 @@ returns-5 : tie.Need-returns-5
 returns-5 c = rw (c .before .enum-told5 .given .1) (c .mov-lanes .ensures)
 
 pub one-results-spec : {M : Type 1} → statement M
-one-results-spec =
-    tie.close
-    (tie.spec
-    enum-told
-    neg-lanes-requires
-    enum-told-2
-    abs-lanes-requires
-    enum-told-3
-    not-lanes-requires
-    enum-told-4
-    popcnt-lanes-requires
-    enum-told-5
-    mov-lanes-requires
-    returns
-    returns-2
-    returns-3
-    returns-4
-    returns-5)
+one-results-spec = tie.close (tie.spec
+    (λ c. search needs) (λ c κs. search needs) (λ c. search needs) (λ c κs. search needs) (λ c. search needs) (λ c κs. search needs)
+    (λ c. search needs) (λ c κs. search needs) (λ c. search needs) (λ c κs. search needs) returns returns-2 returns-3 returns-4 returns-5)

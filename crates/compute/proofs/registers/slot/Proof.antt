@@ -7,9 +7,6 @@ use Rattle.compute.proofs.Slots.{slot-fits}
 use Rattle.compute.proofs.registers.slot.Statement.{statement}
 use Rattle.compute.proofs.registers.slot.Tie as tie
 
-cast-result : tie.Need-cast-result
-cast-result c = search needs
-
 mul-result : tie.Need-mul-result
 mul-result c =
     let a = c .before .args in
@@ -25,4 +22,4 @@ unfolding slot
 returns c = refl
 
 pub slot-spec : {M : Type 1} → statement M
-slot-spec = tie.close (tie.spec cast-result mul-result add-result returns)
+slot-spec = tie.close (tie.spec (λ c. search needs) mul-result add-result returns)

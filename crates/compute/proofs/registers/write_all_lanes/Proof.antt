@@ -30,15 +30,6 @@ long z =
 loop-holds : tie.Need-loop-holds Inv-loop μ-loop
 loop-holds c = turned-none _ _
 
-slot-requires : tie.Need-slot-requires Inv-loop μ-loop
-slot-requires c κs = search needs
-
-cast-k : tie.Need-cast-k Inv-loop μ-loop
-cast-k c = omega arith
-
-mul-regs : tie.Need-mul-regs Inv-loop μ-loop
-mul-regs c = omega arith
-
 array-read-regs : tie.Need-array-read-regs Inv-loop μ-loop
 array-read-regs c = omega (arith, c .before .before .before .before .pre .narrow)
 
@@ -47,12 +38,6 @@ mul-regs-2 c = let h = inside c in omega arith
 
 slice-write-regs : tie.Need-slice-write-regs Inv-loop μ-loop
 slice-write-regs c = omega (arith, long (c .before .before), inside c)
-
-add-i : tie.Need-add-i Inv-loop μ-loop
-add-i c = omega arith
-
-loop-less : tie.Need-loop-less Inv-loop μ-loop
-loop-less c = omega arith
 
 loop-again : tie.Need-loop-again Inv-loop μ-loop
 loop-again c =
@@ -69,20 +54,6 @@ unfolding writeLanes
 returns c = turned-all (c .before .loop .inv) (omega arith)
 
 pub write-all-lanes-spec : {M : Type 1} → statement M
-write-all-lanes-spec =
-    tie.close
-    (tie.spec
-    Inv-loop
-    μ-loop
-    loop-holds
-    slot-requires
-    cast-k
-    mul-regs
-    array-read-regs
-    mul-regs-2
-    slice-write-regs
-    add-i
-    loop-less
-    loop-again
-    same-length
-    returns)
+write-all-lanes-spec = tie.close (tie.spec
+    Inv-loop μ-loop loop-holds (λ c κs. search needs) (λ c. omega arith) (λ c. omega arith) array-read-regs mul-regs-2 slice-write-regs
+    (λ c. omega arith) (λ c. omega arith) loop-again same-length returns)

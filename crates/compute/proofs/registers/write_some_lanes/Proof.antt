@@ -27,12 +27,6 @@ long z = let a = z .before .before .args in length-turned (length-write-turn (a 
 loop-holds : tie.Need-loop-holds Inv-loop μ-loop
 loop-holds c = turned-none _ _
 
-slot-requires : tie.Need-slot-requires Inv-loop μ-loop
-slot-requires c κs = search needs
-
-cast-k : tie.Need-cast-k Inv-loop μ-loop
-cast-k c = omega arith
-
 mul-old : tie.Need-mul-old Inv-loop μ-loop
 mul-old c = let h = inside c in omega arith
 
@@ -42,26 +36,14 @@ slice-read-old c = omega (arith, long (c .before .before .before), inside (c .be
 picks-requires : tie.Need-picks-requires Inv-loop μ-loop
 picks-requires c κs = omega (arith, c .before .before .before .before .before .pre .narrow)
 
-mul-chosen : tie.Need-mul-chosen Inv-loop μ-loop
-mul-chosen c = omega arith
-
 array-read-chosen : tie.Need-array-read-chosen Inv-loop μ-loop
 array-read-chosen c = omega (arith, c .before .before .before .before .before .before .pre .narrow)
-
-chosen-requires : tie.Need-chosen-requires Inv-loop μ-loop
-chosen-requires c κs = search needs
 
 mul-regs : tie.Need-mul-regs Inv-loop μ-loop
 mul-regs c = let h = inside (c .before .before .before) in omega arith
 
 slice-write-regs : tie.Need-slice-write-regs Inv-loop μ-loop
 slice-write-regs c = let z = c .before .before .before in omega (arith, long (z .before .before), inside z)
-
-add-i : tie.Need-add-i Inv-loop μ-loop
-add-i c = omega arith
-
-loop-less : tie.Need-loop-less Inv-loop μ-loop
-loop-less c = omega arith
 
 loop-again : tie.Need-loop-again Inv-loop μ-loop
 loop-again c =
@@ -79,24 +61,6 @@ unfolding writeLanes
 returns c = turned-all (c .before .loop .inv) (omega arith)
 
 pub write-some-lanes-spec : {M : Type 1} → statement M
-write-some-lanes-spec =
-    tie.close
-    (tie.spec
-    Inv-loop
-    μ-loop
-    loop-holds
-    slot-requires
-    cast-k
-    mul-old
-    slice-read-old
-    picks-requires
-    mul-chosen
-    array-read-chosen
-    chosen-requires
-    mul-regs
-    slice-write-regs
-    add-i
-    loop-less
-    loop-again
-    same-length
-    returns)
+write-some-lanes-spec = tie.close (tie.spec
+    Inv-loop μ-loop loop-holds (λ c κs. search needs) (λ c. omega arith) mul-old slice-read-old picks-requires (λ c. omega arith)
+    array-read-chosen (λ c κs. search needs) mul-regs slice-write-regs (λ c. omega arith) (λ c. omega arith) loop-again same-length returns)

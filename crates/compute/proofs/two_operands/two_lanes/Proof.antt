@@ -28,15 +28,6 @@ inside-second z = slot-in (z .before .before .before .before .before .pre .1) _ 
 loop-holds : tie.Need-loop-holds Inv-loop μ-loop
 loop-holds c = filled-none _ (c .before .pre .0 .narrow)
 
-slot-requires : tie.Need-slot-requires Inv-loop μ-loop
-slot-requires c κs = search needs
-
-slot-requires-2 : tie.Need-slot-requires-2 Inv-loop μ-loop
-slot-requires-2 c κs = search needs
-
-cast-k : tie.Need-cast-k Inv-loop μ-loop
-cast-k c = omega arith
-
 mul-two : tie.Need-mul-two Inv-loop μ-loop
 mul-two c = let h = inside c in omega arith
 
@@ -48,21 +39,6 @@ mul-two-2 c = let h = inside-second (c .before) in omega arith
 
 shared-slice-read-two-2 : tie.Need-shared-slice-read-two-2 Inv-loop μ-loop
 shared-slice-read-two-2 c = inside-second (c .before .before)
-
-two-requires : tie.Need-two-requires Inv-loop μ-loop
-two-requires c κs = search needs
-
-mul-out : tie.Need-mul-out Inv-loop μ-loop
-mul-out c = omega arith
-
-array-write-out : tie.Need-array-write-out Inv-loop μ-loop
-array-write-out c = omega arith
-
-add-i : tie.Need-add-i Inv-loop μ-loop
-add-i c = omega arith
-
-loop-less : tie.Need-loop-less Inv-loop μ-loop
-loop-less c = omega arith
 
 loop-again : tie.Need-loop-again Inv-loop μ-loop
 loop-again c =
@@ -76,23 +52,7 @@ unfolding twoLanes
 returns c = filled-all (c .before .loop .inv) (omega arith)
 
 pub two-lanes-spec : {M : Type 1} → statement M
-two-lanes-spec =
-    tie.close
-    (tie.spec
-    Inv-loop
-    μ-loop
-    loop-holds
-    slot-requires
-    slot-requires-2
-    cast-k
-    mul-two
-    shared-slice-read-two
-    mul-two-2
-    shared-slice-read-two-2
-    two-requires
-    mul-out
-    array-write-out
-    add-i
-    loop-less
-    loop-again
+two-lanes-spec = tie.close (tie.spec
+    Inv-loop μ-loop loop-holds (λ c κs. search needs) (λ c κs. search needs) (λ c. omega arith) mul-two shared-slice-read-two mul-two-2
+    shared-slice-read-two-2 (λ c κs. search needs) (λ c. omega arith) (λ c. omega arith) (λ c. omega arith) (λ c. omega arith) loop-again
     returns)

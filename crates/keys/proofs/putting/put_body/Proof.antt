@@ -4,16 +4,10 @@ use borrow.Author.Needs.{needs}
 use Rattle.keys.proofs.putting.put_body.Statement.{statement}
 use Rattle.keys.proofs.putting.put_body.Tie as tie
 
-put-head-requires : tie.Need-put-head-requires
-put-head-requires c κs = search needs
-
 put-state-requires : tie.Need-put-state-requires
 put-state-requires c κs =
     let h = c .before .before .before in
     (h .before .before .before .pre, head-place _ _ (h .before .before .before .args .f) _ _ _ (h .put-head .ensures .0))
-
-same-length : tie.Need-same-length
-same-length c = search needs
 
 returns : tie.Need-returns
 returns c =
@@ -26,4 +20,4 @@ returns c =
     }
 
 pub put-body-spec : {M : Type 1} → statement M
-put-body-spec = tie.close (tie.spec put-head-requires put-state-requires same-length returns)
+put-body-spec = tie.close (tie.spec (λ c κs. search needs) put-state-requires (λ c. search needs) returns)

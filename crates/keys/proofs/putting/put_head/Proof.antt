@@ -5,24 +5,6 @@ use borrow.Author.Needs.{needs}
 use Rattle.keys.proofs.putting.put_head.Statement.{statement}
 use Rattle.keys.proofs.putting.put_head.Tie as tie
 
-put-requires : tie.Need-put-requires
-put-requires c κs = search needs
-
-put-requires-2 : tie.Need-put-requires-2
-put-requires-2 c κs = search needs
-
-count-of-requires : tie.Need-count-of-requires
-count-of-requires c κs = search needs
-
-put-requires-3 : tie.Need-put-requires-3
-put-requires-3 c κs = search needs
-
-put-kinds-requires : tie.Need-put-kinds-requires
-put-kinds-requires c κs = search needs
-
-same-length : tie.Need-same-length
-same-length c = search needs
-
 returns : tie.Need-returns
 returns c =
     let kinds = c .before .before .put-kinds .ensures in
@@ -37,13 +19,6 @@ returns c =
     )
 
 pub put-head-spec : {M : Type 1} → statement M
-put-head-spec =
-    tie.close
-    (tie.spec
-    put-requires
-    put-requires-2
-    count-of-requires
-    put-requires-3
-    put-kinds-requires
-    same-length
+put-head-spec = tie.close (tie.spec
+    (λ c κs. search needs) (λ c κs. search needs) (λ c κs. search needs) (λ c κs. search needs) (λ c κs. search needs) (λ c. search needs)
     returns)

@@ -8,21 +8,6 @@ use Rattle.keys.proofs.putting.put_kind.Tie as tie
 returns : tie.Need-returns
 returns c = (no-kind _ _ _ _ (c .if1 .taken), small-noted _ _ (omega arith) (omega arith))
 
-put-requires : tie.Need-put-requires
-put-requires c κs = search needs
-
-add-put : tie.Need-add-put
-add-put c = search needs
-
-put-requires-2 : tie.Need-put-requires-2
-put-requires-2 c κs = search needs
-
-add-result : tie.Need-add-result
-add-result c = search needs
-
-same-length : tie.Need-same-length
-same-length c = search needs
-
 returns-2 : tie.Need-returns-2
 returns-2 c =
     let lanes = c .before .before in
@@ -30,6 +15,5 @@ returns-2 c =
     (some-kind _ _ _ _ _ _ (kind .before .before .if1 .left) (kind .put .ensures) (lanes .put2 .ensures), small-noted _ _ (omega arith) (omega arith))
 
 pub put-kind-spec : {M : Type 1} → statement M
-put-kind-spec =
-    tie.close
-    (tie.spec returns put-requires add-put put-requires-2 add-result same-length returns-2)
+put-kind-spec = tie.close (tie.spec
+    returns (λ c κs. search needs) (λ c. search needs) (λ c κs. search needs) (λ c. search needs) (λ c. search needs) returns-2)

@@ -20,9 +20,6 @@ third-place z = omega (arith, second-place (z .before .before .before .before), 
 fourth-place : (z : tie.After-put-kind4) → z .put-kind4 .result ≤ kindsPlace + 32
 fourth-place z = omega (arith, third-place (z .before .before .before .before), kind-place _ _ _ _ _ _ (z .put-kind4 .ensures .0))
 
-put-kind-requires : tie.Need-put-kind-requires
-put-kind-requires c κs = search needs
-
 put-kind-requires-2 : tie.Need-put-kind-requires-2
 put-kind-requires-2 c κs = omega (arith, first-place (c .before .before .before))
 
@@ -34,9 +31,6 @@ put-kind-requires-4 c κs = omega (arith, third-place (c .before .before .before
 
 put-kind-requires-5 : tie.Need-put-kind-requires-5
 put-kind-requires-5 c κs = omega (arith, fourth-place (c .before .before .before))
-
-same-length : tie.Need-same-length
-same-length c = search needs
 
 returns : tie.Need-returns
 returns c =
@@ -54,13 +48,5 @@ returns c =
     (five-kinds f _ _ _ _ _ _ _ _ _ _ _ _ (e1 .0) (e2 .0) (e3 .0) (e4 .0) (e5 .0), small-kinds f (e1 .1) (e2 .1) (e3 .1) (e4 .1) (e5 .1))
 
 pub put-kinds-spec : {M : Type 1} → statement M
-put-kinds-spec =
-    tie.close
-    (tie.spec
-    put-kind-requires
-    put-kind-requires-2
-    put-kind-requires-3
-    put-kind-requires-4
-    put-kind-requires-5
-    same-length
-    returns)
+put-kinds-spec = tie.close (tie.spec
+    (λ c κs. search needs) put-kind-requires-2 put-kind-requires-3 put-kind-requires-4 put-kind-requires-5 (λ c. search needs) returns)

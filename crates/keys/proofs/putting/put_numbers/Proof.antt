@@ -20,15 +20,6 @@ abbrev μ-loop : tie.MeasureT-loop
 loop-holds : tie.Need-loop-holds Inv-loop μ-loop
 loop-holds c = (omega arith, omega arith, refl, put-none (c .before .before .args .numbers .now) _ _)
 
-mul-put : tie.Need-mul-put Inv-loop μ-loop
-mul-put c = search needs
-
-shared-slice-read-put : tie.Need-shared-slice-read-put Inv-loop μ-loop
-shared-slice-read-put c = search needs
-
-put-requires : tie.Need-put-requires Inv-loop μ-loop
-put-requires c κs = search needs
-
 add-q : tie.Need-add-q Inv-loop μ-loop
 add-q c =
     let z = c .before .before .before .before .before .before in
@@ -60,18 +51,6 @@ returns c =
     (put-all _ _ _ _ _ (c .loop-test .left) (z .loop .inv .3), record { below = λ i. let w = words i in omega arith })
 
 pub put-numbers-spec : {M : Type 1} → statement M
-put-numbers-spec =
-    tie.close
-    (tie.spec
-    Inv-loop
-    μ-loop
-    loop-holds
-    mul-put
-    shared-slice-read-put
-    put-requires
-    add-q
-    add-k
-    loop-less
-    loop-again
-    same-length
+put-numbers-spec = tie.close (tie.spec
+    Inv-loop μ-loop loop-holds (λ c. search needs) (λ c. search needs) (λ c κs. search needs) add-q add-k loop-less loop-again same-length
     returns)

@@ -10,33 +10,6 @@ use borrow.Author.Needs.{needs}
 use Rattle.keys.proofs.putting.put_state.Statement.{statement}
 use Rattle.keys.proofs.putting.put_state.Tie as tie
 
-whole-requires : tie.Need-whole-requires
-whole-requires c κs = search needs
-
-put-requires : tie.Need-put-requires
-put-requires c κs = search needs
-
-add-put : tie.Need-add-put
-add-put c = search needs
-
-put-requires-2 : tie.Need-put-requires-2
-put-requires-2 c κs = search needs
-
-add-put-2 : tie.Need-add-put-2
-add-put-2 c = search needs
-
-put-requires-3 : tie.Need-put-requires-3
-put-requires-3 c κs = search needs
-
-cast-open : tie.Need-cast-open
-cast-open c = search needs
-
-mul-open : tie.Need-mul-open
-mul-open c = search needs
-
-array-share-prefix-blocks : tie.Need-array-share-prefix-blocks
-array-share-prefix-blocks c = search needs
-
 -- from where the blocks are lent, back to where the array's length is known, and to the start
 abbrev known : tie.After-blocks4 → tie.After-whole
 known z = z .before .before .before .before .before .before .before .before .before .before .before .before .before .before
@@ -52,14 +25,8 @@ lent z = length-take-le _ _ (omega (arith, z .whole .ensures, start z .pre .0))
 slice-aggregate-put-numbers : tie.Need-slice-aggregate-put-numbers
 slice-aggregate-put-numbers c = sym (lent (known c))
 
-add-put-numbers : tie.Need-add-put-numbers
-add-put-numbers c = search needs
-
 put-numbers-requires : tie.Need-put-numbers-requires
 put-numbers-requires c κs = let w = known (c .before) in omega (arith, lent w, start w .pre .0, start w .pre .1)
-
-same-length : tie.Need-same-length
-same-length c = search needs
 
 returns : tie.Need-returns
 returns c =
@@ -76,20 +43,7 @@ returns c =
     )
 
 pub put-state-spec : {M : Type 1} → statement M
-put-state-spec =
-    tie.close
-    (tie.spec
-    whole-requires
-    put-requires
-    add-put
-    put-requires-2
-    add-put-2
-    put-requires-3
-    cast-open
-    mul-open
-    array-share-prefix-blocks
-    slice-aggregate-put-numbers
-    add-put-numbers
-    put-numbers-requires
-    same-length
-    returns)
+put-state-spec = tie.close (tie.spec
+    (λ c κs. search needs) (λ c κs. search needs) (λ c. search needs) (λ c κs. search needs) (λ c. search needs) (λ c κs. search needs)
+    (λ c. search needs) (λ c. search needs) (λ c. search needs) slice-aggregate-put-numbers (λ c. search needs) put-numbers-requires
+    (λ c. search needs) returns)

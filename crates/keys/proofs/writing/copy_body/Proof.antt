@@ -7,15 +7,6 @@ use borrow.Author.Needs.{needs}
 use Rattle.keys.proofs.writing.copy_body.Statement.{statement}
 use Rattle.keys.proofs.writing.copy_body.Tie as tie
 
-body-length-requires : tie.Need-body-length-requires
-body-length-requires c κs = search needs
-
-enum-known-size : tie.Need-enum-known-size
-enum-known-size c = search needs
-
-enum-told : tie.Need-enum-told
-enum-told c = search needs
-
 -- the length that was answered
 answered : (z : tie.After-size) → Length (z .size .given .0 .0) ≡ bodyAnswer (z .before .before .before .before .before .args .bytes .now) 0
 answered z = sym (z .size .given .1) ∙ z .before .before .body-length .ensures
@@ -29,27 +20,12 @@ returns-2 c = copy-short _ _ _ (answered (c .before .before)) (c .if1 .taken)
 slice-aggregate-put-bytes : tie.Need-slice-aggregate-put-bytes
 slice-aggregate-put-bytes c = copy-long _ _ (answered (c .before .before .before .before))
 
-put-bytes-requires : tie.Need-put-bytes-requires
-put-bytes-requires c κs = search needs
-
-same-length : tie.Need-same-length
-same-length c = search needs
-
 returns-3 : tie.Need-returns-3
 returns-3 c =
     let room = c .before .before .before .before .before in
     copy-so _ _ _ _ (answered (room .before .before)) (room .if1 .left) (c .before .before .put-bytes .ensures)
 
 pub copy-body-spec : {M : Type 1} → statement M
-copy-body-spec =
-    tie.close
-    (tie.spec
-    body-length-requires
-    enum-known-size
-    enum-told
-    returns
-    returns-2
-    slice-aggregate-put-bytes
-    put-bytes-requires
-    same-length
-    returns-3)
+copy-body-spec = tie.close (tie.spec
+    (λ c κs. search needs) (λ c. search needs) (λ c. search needs) returns returns-2 slice-aggregate-put-bytes (λ c κs. search needs)
+    (λ c. search needs) returns-3)

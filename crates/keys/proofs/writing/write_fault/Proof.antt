@@ -9,21 +9,6 @@ use Rattle.keys.proofs.writing.write_fault.Tie as tie
 returns : tie.Need-returns
 returns c = deep-key _ _ _ _ (c .if1 .taken)
 
-slice-aggregate-put-body : tie.Need-slice-aggregate-put-body
-slice-aggregate-put-body c = search needs
-
-put-body-requires : tie.Need-put-body-requires
-put-body-requires c κs = search needs
-
-slice-aggregate-copy-body : tie.Need-slice-aggregate-copy-body
-slice-aggregate-copy-body c = search needs
-
-copy-body-requires : tie.Need-copy-body-requires
-copy-body-requires c κs = search needs
-
-same-length : tie.Need-same-length
-same-length c = search needs
-
 returns-2 : tie.Need-returns-2
 returns-2 c =
     let copy = c .before .before in
@@ -31,13 +16,5 @@ returns-2 c =
     copy .copy-body .ensures ∙ copy-put _ _ _ (put .put-body .ensures) (body-room _ _ _ (omega (arith, put .before .before .if1 .left))) _
 
 pub write-fault-spec : {M : Type 1} → statement M
-write-fault-spec =
-    tie.close
-    (tie.spec
-    returns
-    slice-aggregate-put-body
-    put-body-requires
-    slice-aggregate-copy-body
-    copy-body-requires
-    same-length
-    returns-2)
+write-fault-spec = tie.close (tie.spec
+    returns (λ c. search needs) (λ c κs. search needs) (λ c. search needs) (λ c κs. search needs) (λ c. search needs) returns-2)

@@ -8,15 +8,6 @@ use borrow.Author.Needs.{needs}
 use Rattle.listing.proofs.field.put_field.Statement.{statement}
 use Rattle.listing.proofs.field.put_field.Tie as tie
 
-decimal-requires : tie.Need-decimal-requires
-decimal-requires c κs = search needs
-
-array-share-prefix-digits : tie.Need-array-share-prefix-digits
-array-share-prefix-digits c = search needs
-
-slice-aggregate-put-text : tie.Need-slice-aggregate-put-text
-slice-aggregate-put-text c = search needs
-
 -- a number of 64 bits has at most 20 digits
 few-digits : (z : tie.After-decimal) → z .decimal .result ≤ mostPlaces
 few-digits z = fewest-most _ _ (z .decimal .ensures .1 .0) (omega arith)
@@ -24,14 +15,8 @@ few-digits z = fewest-most _ _ (z .decimal .ensures .1 .0) (omega arith)
 put-text-requires : tie.Need-put-text-requires
 put-text-requires c κs = omega (arith, few-digits (c .before .before))
 
-slice-aggregate-put-text-2 : tie.Need-slice-aggregate-put-text-2
-slice-aggregate-put-text-2 c = search needs
-
 put-text-requires-2 : tie.Need-put-text-requires-2
 put-text-requires-2 c κs = omega (arith, few-digits (c .before .before .before .before .before .before .before))
-
-same-length : tie.Need-same-length
-same-length c = search needs
 
 returns : tie.Need-returns
 returns c =
@@ -41,14 +26,6 @@ returns c =
     field-puts (d .1 .0) (omega arith) (d .1 .1) (text .put-text .ensures) (last .put-text2 .ensures)
 
 pub put-field-spec : {M : Type 1} → statement M
-put-field-spec =
-    tie.close
-    (tie.spec
-    decimal-requires
-    array-share-prefix-digits
-    slice-aggregate-put-text
-    put-text-requires
-    slice-aggregate-put-text-2
-    put-text-requires-2
-    same-length
-    returns)
+put-field-spec = tie.close (tie.spec
+    (λ c κs. search needs) (λ c. search needs) (λ c. search needs) put-text-requires (λ c. search needs) put-text-requires-2
+    (λ c. search needs) returns)

@@ -7,39 +7,6 @@ use borrow.Author.Needs.{needs}
 use Rattle.listing.proofs.table.put_line.Statement.{statement}
 use Rattle.listing.proofs.table.put_line.Tie as tie
 
-get-requires : tie.Need-get-requires
-get-requires c κs = search needs
-
-cast-kernel : tie.Need-cast-kernel
-cast-kernel c = search needs
-
-get-requires-2 : tie.Need-get-requires-2
-get-requires-2 c κs = search needs
-
-cast-place : tie.Need-cast-place
-cast-place c = search needs
-
-get-requires-3 : tie.Need-get-requires-3
-get-requires-3 c κs = search needs
-
-cast-count : tie.Need-cast-count
-cast-count c = search needs
-
-mul-get : tie.Need-mul-get
-mul-get c = search needs
-
-add-get : tie.Need-add-get
-add-get c = search needs
-
-get-requires-4 : tie.Need-get-requires-4
-get-requires-4 c κs = search needs
-
-cast-depth : tie.Need-cast-depth
-cast-depth c = search needs
-
-put-two-requires : tie.Need-put-two-requires
-put-two-requires c κs = search needs
-
 put-two-requires-2 : tie.Need-put-two-requires-2
 put-two-requires-2 c κs = omega (arith, two-near)
 
@@ -56,9 +23,6 @@ kinds-end z =
 put-field-requires : tie.Need-put-field-requires
 put-field-requires c κs = omega (arith, two-near, kinds-end (c .before .before .before))
 
-same-length : tie.Need-same-length
-same-length c = search needs
-
 returns : tie.Need-returns
 returns c =
     let last = c .before .before in
@@ -73,22 +37,7 @@ returns c =
     (one .put-two .ensures) (two .put-two2 .ensures) (kinds .put-kinds .ensures) (last .put-field .ensures)
 
 pub put-line-spec : {M : Type 1} → statement M
-put-line-spec =
-    tie.close
-    (tie.spec
-    get-requires
-    cast-kernel
-    get-requires-2
-    cast-place
-    get-requires-3
-    cast-count
-    mul-get
-    add-get
-    get-requires-4
-    cast-depth
-    put-two-requires
-    put-two-requires-2
-    put-kinds-requires
-    put-field-requires
-    same-length
-    returns)
+put-line-spec = tie.close (tie.spec
+    (λ c κs. search needs) (λ c. search needs) (λ c κs. search needs) (λ c. search needs) (λ c κs. search needs) (λ c. search needs)
+    (λ c. search needs) (λ c. search needs) (λ c κs. search needs) (λ c. search needs) (λ c κs. search needs) put-two-requires-2
+    put-kinds-requires put-field-requires (λ c. search needs) returns)

@@ -40,53 +40,17 @@ mul-get c = omega (arith, few (c .before .before .before .before .before))
 add-get : tie.Need-add-get Inv-loop μ-loop
 add-get c = omega (arith, few (c .before .before .before .before .before))
 
-get-requires : tie.Need-get-requires Inv-loop μ-loop
-get-requires c κs = search needs
-
-cast-place : tie.Need-cast-place Inv-loop μ-loop
-cast-place c = search needs
-
 mul-get-2 : tie.Need-mul-get-2 Inv-loop μ-loop
 mul-get-2 c = omega (arith, few (c .before .before .before .before .before .before))
 
 add-get-2 : tie.Need-add-get-2 Inv-loop μ-loop
 add-get-2 c = omega (arith, few (c .before .before .before .before .before .before))
 
-get-requires-2 : tie.Need-get-requires-2 Inv-loop μ-loop
-get-requires-2 c κs = search needs
-
-cast-end : tie.Need-cast-end Inv-loop μ-loop
-cast-end c = search needs
-
-add-end : tie.Need-add-end Inv-loop μ-loop
-add-end c = search needs
-
-add-put-line : tie.Need-add-put-line Inv-loop μ-loop
-add-put-line c = search needs
-
-mul-put-line : tie.Need-mul-put-line Inv-loop μ-loop
-mul-put-line c = search needs
-
-shared-slice-read-put-line : tie.Need-shared-slice-read-put-line Inv-loop μ-loop
-shared-slice-read-put-line c = search needs
-
-sub-put-line : tie.Need-sub-put-line Inv-loop μ-loop
-sub-put-line c = omega arith
-
-part-put-line-start : tie.Need-part-put-line-start Inv-loop μ-loop
-part-put-line-start c = omega arith
-
 part-put-line-end : tie.Need-part-put-line-end Inv-loop μ-loop
 part-put-line-end c = cut (c .before .before) .inside
 
 put-line-requires : tie.Need-put-line-requires Inv-loop μ-loop
 put-line-requires c κs = (cut (c .before .before .before) .whole, omega arith)
-
-add-k : tie.Need-add-k Inv-loop μ-loop
-add-k c = search needs
-
-loop-less : tie.Need-loop-less Inv-loop μ-loop
-loop-less c = search needs
 
 loop-again : tie.Need-loop-again Inv-loop μ-loop
 loop-again c =
@@ -102,30 +66,7 @@ returns : tie.Need-returns Inv-loop μ-loop
 returns c = lining-end (c .before .loop .inv) (c .loop-test .left)
 
 pub put-lines-spec : {M : Type 1} → statement M
-put-lines-spec =
-    tie.close
-    (tie.spec
-    Inv-loop
-    μ-loop
-    loop-holds
-    mul-get
-    add-get
-    get-requires
-    cast-place
-    mul-get-2
-    add-get-2
-    get-requires-2
-    cast-end
-    add-end
-    add-put-line
-    mul-put-line
-    shared-slice-read-put-line
-    sub-put-line
-    part-put-line-start
-    part-put-line-end
-    put-line-requires
-    add-k
-    loop-less
-    loop-again
-    same-length
-    returns)
+put-lines-spec = tie.close (tie.spec
+    Inv-loop μ-loop loop-holds mul-get add-get (λ c κs. search needs) (λ c. search needs) mul-get-2 add-get-2 (λ c κs. search needs)
+    (λ c. search needs) (λ c. search needs) (λ c. search needs) (λ c. search needs) (λ c. search needs) (λ c. omega arith)
+    (λ c. omega arith) part-put-line-end put-line-requires (λ c. search needs) (λ c. search needs) loop-again same-length returns)

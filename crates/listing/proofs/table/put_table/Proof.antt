@@ -5,15 +5,6 @@ use borrow.Author.Needs.{needs}
 use Rattle.listing.proofs.table.put_table.Statement.{statement}
 use Rattle.listing.proofs.table.put_table.Tie as tie
 
-count-distinct-requires : tie.Need-count-distinct-requires
-count-distinct-requires c κs = search needs
-
-slice-aggregate-put-text : tie.Need-slice-aggregate-put-text
-slice-aggregate-put-text c = search needs
-
-put-text-requires : tie.Need-put-text-requires
-put-text-requires c κs = search needs
-
 put-lines-requires : tie.Need-put-lines-requires
 put-lines-requires c κs =
     let p = c .before .before .before .before .before .before .before .before .before .before .pre in
@@ -25,9 +16,6 @@ put-total-requires c κs =
     let p = lines .before .before .before .before .before .before .before .before .before .before .before .pre in
     omega (arith, listed-few _ _ (p .0) (p .1), listed-near _ _ (p .0) (p .1) (lines .put-lines .ensures))
 
-same-length : tie.Need-same-length
-same-length c = search needs
-
 returns : tie.Need-returns
 returns c =
     let last = c .before .before in
@@ -37,13 +25,5 @@ returns c =
     table-puts _ _ (count .count-distinct .ensures) (head .put-text .ensures) (lines .put-lines .ensures) (last .put-total .ensures)
 
 pub put-table-spec : {M : Type 1} → statement M
-put-table-spec =
-    tie.close
-    (tie.spec
-    count-distinct-requires
-    slice-aggregate-put-text
-    put-text-requires
-    put-lines-requires
-    put-total-requires
-    same-length
-    returns)
+put-table-spec = tie.close (tie.spec
+    (λ c κs. search needs) (λ c. search needs) (λ c κs. search needs) put-lines-requires put-total-requires (λ c. search needs) returns)

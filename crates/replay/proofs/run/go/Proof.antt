@@ -53,46 +53,13 @@ turn z =
 loop-holds : tie.Need-loop-holds Inv-loop μ-loop
 loop-holds c = start _ _ _ _
 
-has-ended-requires : tie.Need-has-ended-requires Inv-loop μ-loop
-has-ended-requires c κs = search needs
-
-same-length : tie.Need-same-length Inv-loop μ-loop
-same-length c = search needs
-
-same-length-2 : tie.Need-same-length-2 Inv-loop μ-loop
-same-length-2 c = search needs
-
-same-length-3 : tie.Need-same-length-3 Inv-loop μ-loop
-same-length-3 c = search needs
-
 returns : tie.Need-returns Inv-loop μ-loop
 returns c = ends (c .before .before .loop .inv) (sym (c .before .has-ended .ensures) ∙ c .if1 .taken)
-
-same-length-4 : tie.Need-same-length-4 Inv-loop μ-loop
-same-length-4 c = search needs
-
-same-length-5 : tie.Need-same-length-5 Inv-loop μ-loop
-same-length-5 c = search needs
-
-same-length-6 : tie.Need-same-length-6 Inv-loop μ-loop
-same-length-6 c = search needs
 
 returns-2 : tie.Need-returns-2 Inv-loop μ-loop
 returns-2 c =
     let asked = c .before .before .before in
     spends (asked .before .loop .inv) (sym (asked .has-ended .ensures) ∙ c .before .before .if1 .left) (c .if2 .taken)
-
-cast-instr-at : tie.Need-cast-instr-at Inv-loop μ-loop
-cast-instr-at c = search needs
-
-instr-at-requires : tie.Need-instr-at-requires Inv-loop μ-loop
-instr-at-requires c κs = search needs
-
-step-requires : tie.Need-step-requires Inv-loop μ-loop
-step-requires c κs = search needs
-
-is-clear-requires : tie.Need-is-clear-requires Inv-loop μ-loop
-is-clear-requires c κs = search needs
 
 same-length-7 : tie.Need-same-length-7 Inv-loop μ-loop
 same-length-7 c = still-long (turn (c .before)) .regs
@@ -119,29 +86,7 @@ loop-again : tie.Need-loop-again Inv-loop μ-loop
 loop-again c = goes (turn (c .before)) (sym (c .before .is-clear .ensures) ∙ not-false _ (c .if3 .left))
 
 pub go-spec : {M : Type 1} → statement M
-go-spec =
-    tie.close
-    (tie.spec
-    Inv-loop
-    μ-loop
-    loop-holds
-    has-ended-requires
-    same-length
-    same-length-2
-    same-length-3
-    returns
-    same-length-4
-    same-length-5
-    same-length-6
-    returns-2
-    cast-instr-at
-    instr-at-requires
-    step-requires
-    is-clear-requires
-    same-length-7
-    same-length-8
-    same-length-9
-    returns-3
-    add-steps
-    loop-less
-    loop-again)
+go-spec = tie.close (tie.spec
+    Inv-loop μ-loop loop-holds (λ c κs. search needs) (λ c. search needs) (λ c. search needs) (λ c. search needs) returns
+    (λ c. search needs) (λ c. search needs) (λ c. search needs) returns-2 (λ c. search needs) (λ c κs. search needs) (λ c κs. search needs)
+    (λ c κs. search needs) same-length-7 same-length-8 same-length-9 returns-3 add-steps loop-less loop-again)

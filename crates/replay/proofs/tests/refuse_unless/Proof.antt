@@ -4,11 +4,8 @@ use borrow.Author.Needs.{needs}
 use Rattle.replay.proofs.tests.refuse_unless.Statement.{statement}
 use Rattle.replay.proofs.tests.refuse_unless.Tie as tie
 
-returns : tie.Need-returns
-returns c = search needs
-
 returns-2 : tie.Need-returns-2
 returns-2 c = rw (c .if1 .left)
 
 pub refuse-unless-spec : {M : Type 1} → statement M
-refuse-unless-spec = tie.close (tie.spec returns returns-2)
+refuse-unless-spec = tie.close (tie.spec (λ c. search needs) returns-2)

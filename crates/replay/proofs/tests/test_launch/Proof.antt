@@ -4,18 +4,6 @@ use borrow.Author.Needs.{needs}
 use Rattle.replay.proofs.tests.test_launch.Statement.{statement}
 use Rattle.replay.proofs.tests.test_launch.Tie as tie
 
-test-bounds-requires : tie.Need-test-bounds-requires
-test-bounds-requires c κs = search needs
-
-enum-known-bounds : tie.Need-enum-known-bounds
-enum-known-bounds c = search needs
-
-enum-told : tie.Need-enum-told
-enum-told c = search needs
-
-check-requires : tie.Need-check-requires
-check-requires c κs = search needs
-
 returns : tie.Need-returns
 returns c = stops (c .before .before .before .test-bounds .ensures) _ (c .before .bounds .given .1)
 
@@ -23,6 +11,5 @@ returns-2 : tie.Need-returns-2
 returns-2 c = goes-on (c .before .before .before .test-bounds .ensures) _ (c .before .enum-told .given .1) (c .check .ensures)
 
 pub test-launch-spec : {M : Type 1} → statement M
-test-launch-spec =
-    tie.close
-    (tie.spec test-bounds-requires enum-known-bounds enum-told check-requires returns returns-2)
+test-launch-spec = tie.close (tie.spec
+    (λ c κs. search needs) (λ c. search needs) (λ c. search needs) (λ c κs. search needs) returns returns-2)

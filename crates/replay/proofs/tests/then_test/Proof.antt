@@ -4,17 +4,8 @@ use borrow.Author.Needs.{needs}
 use Rattle.replay.proofs.tests.then_test.Statement.{statement}
 use Rattle.replay.proofs.tests.then_test.Tie as tie
 
-enum-told : tie.Need-enum-told
-enum-told c = search needs
-
-enum-known-first : tie.Need-enum-known-first
-enum-known-first c = search needs
-
-returns : tie.Need-returns
-returns c = search needs
-
 returns-2 : tie.Need-returns-2
 returns-2 c = rw (c .before .first .given .1)
 
 pub then-test-spec : {M : Type 1} → statement M
-then-test-spec = tie.close (tie.spec enum-told enum-known-first returns returns-2)
+then-test-spec = tie.close (tie.spec (λ c. search needs) (λ c. search needs) (λ c. search needs) returns-2)

@@ -11,18 +11,6 @@ Inv-loop blocks «open» k₀ k = («open» ≤ 192) × (k ≤ 192)
 abbrev μ-loop : tie.MeasureT-loop
 μ-loop blocks «open» k₀ k = 192 - k
 
-whole-requires : tie.Need-whole-requires Inv-loop μ-loop
-whole-requires c κs = search needs
-
-depth-of-requires : tie.Need-depth-of-requires Inv-loop μ-loop
-depth-of-requires c κs = search needs
-
-cast-open : tie.Need-cast-open Inv-loop μ-loop
-cast-open c = omega arith
-
-mul-open : tie.Need-mul-open Inv-loop μ-loop
-mul-open c = search needs
-
 loop-holds : tie.Need-loop-holds Inv-loop μ-loop
 loop-holds c = (omega (arith, c .depth-of .ensures), omega arith)
 
@@ -80,9 +68,6 @@ mul-say-block-6 c = omega (arith, c .before .loop .inv)
 array-read-say-block-6 : tie.Need-array-read-say-block-6 Inv-loop μ-loop
 array-read-say-block-6 c = omega (arith, c .before .loop .inv)
 
-say-block-requires : tie.Need-say-block-requires Inv-loop μ-loop
-say-block-requires c κs = search needs
-
 add-k : tie.Need-add-k Inv-loop μ-loop
 add-k c = omega (arith, c .before .before .loop .inv)
 
@@ -92,40 +77,9 @@ loop-less c = omega (arith, c .before .before .loop .inv)
 loop-again : tie.Need-loop-again Inv-loop μ-loop
 loop-again c = (c .before .before .loop .inv .0, omega (arith, c .before .before .loop .inv))
 
-returns : tie.Need-returns Inv-loop μ-loop
-returns c = search needs
-
 pub say-blocks-spec : {M : Type 1} → statement M
-say-blocks-spec =
-    tie.close
-    (tie.spec
-    Inv-loop
-    μ-loop
-    whole-requires
-    depth-of-requires
-    cast-open
-    mul-open
-    loop-holds
-    add-loop
-    mul-say-block
-    array-read-say-block
-    add-say-block
-    mul-say-block-2
-    array-read-say-block-2
-    add-say-block-2
-    mul-say-block-3
-    array-read-say-block-3
-    add-say-block-3
-    mul-say-block-4
-    array-read-say-block-4
-    add-say-block-4
-    mul-say-block-5
-    array-read-say-block-5
-    add-say-block-5
-    mul-say-block-6
-    array-read-say-block-6
-    say-block-requires
-    add-k
-    loop-less
-    loop-again
-    returns)
+say-blocks-spec = tie.close (tie.spec
+    Inv-loop μ-loop (λ c κs. search needs) (λ c κs. search needs) (λ c. omega arith) (λ c. search needs) loop-holds add-loop mul-say-block
+    array-read-say-block add-say-block mul-say-block-2 array-read-say-block-2 add-say-block-2 mul-say-block-3 array-read-say-block-3
+    add-say-block-3 mul-say-block-4 array-read-say-block-4 add-say-block-4 mul-say-block-5 array-read-say-block-5 add-say-block-5
+    mul-say-block-6 array-read-say-block-6 (λ c κs. search needs) add-k loop-less loop-again (λ c. search needs))

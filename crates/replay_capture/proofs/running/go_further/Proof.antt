@@ -7,26 +7,13 @@ use borrow.Author.Needs.{needs}
 use Rattle.replay_capture.proofs.running.go_further.Statement.{statement}
 use Rattle.replay_capture.proofs.running.go_further.Tie as tie
 
-resume-requires : tie.Need-resume-requires
-resume-requires c κs = search needs
-
 add-after : tie.Need-add-after
 add-after c =
     let few = resumed-most _ _ _ _ _ _ (c .before .before .before .before .before .before .before .before .resume .ensures) in
     omega arith
 
-same-length : tie.Need-same-length
-same-length c = search needs
-
-same-length-2 : tie.Need-same-length-2
-same-length-2 c = search needs
-
-same-length-3 : tie.Need-same-length-3
-same-length-3 c = search needs
-
 returns : tie.Need-returns
 returns c = ap (added _) (c .before .before .before .before .before .before .before .before .resume .ensures)
 
 pub go-further-spec : {M : Type 1} → statement M
-go-further-spec =
-    tie.close (tie.spec resume-requires add-after same-length same-length-2 same-length-3 returns)
+go-further-spec = tie.close (tie.spec (λ c κs. search needs) add-after (λ c. search needs) (λ c. search needs) (λ c. search needs) returns)

@@ -4,18 +4,6 @@ use borrow.Author.Needs.{needs}
 use Rattle.replay_capture.proofs.running.is_stopped.Statement.{statement}
 use Rattle.replay_capture.proofs.running.is_stopped.Tie as tie
 
-enum-told : tie.Need-enum-told
-enum-told c = search needs
-
-enum-told-2 : tie.Need-enum-told-2
-enum-told-2 c = search needs
-
-enum-known-outcome : tie.Need-enum-known-outcome
-enum-known-outcome c = search needs
-
-enum-known-outcome-2 : tie.Need-enum-known-outcome-2
-enum-known-outcome-2 c = search needs
-
 returns : tie.Need-returns
 unfolding stopped
 returns c = rw (c .enum-told .given .1)
@@ -33,14 +21,5 @@ unfolding stopped
 returns-4 c = rw (c .before .outcome2 .given .1)
 
 pub is-stopped-spec : {M : Type 1} → statement M
-is-stopped-spec =
-    tie.close
-    (tie.spec
-    enum-told
-    enum-told-2
-    enum-known-outcome
-    enum-known-outcome-2
-    returns
-    returns-2
-    returns-3
-    returns-4)
+is-stopped-spec = tie.close (tie.spec
+    (λ c. search needs) (λ c. search needs) (λ c. search needs) (λ c. search needs) returns returns-2 returns-3 returns-4)

@@ -23,15 +23,6 @@ abbrev μ-loop : tie.MeasureT-loop
 μ-loop settings launched code regs₀ device₀ local₀ first answer₀ left₀ regs device local answer left =
     left
 
-slice-of-requires : tie.Need-slice-of-requires Inv-loop μ-loop
-slice-of-requires c κs = search needs
-
-budgeted-requires : tie.Need-budgeted-requires Inv-loop μ-loop
-budgeted-requires c κs = search needs
-
-start-requires : tie.Need-start-requires Inv-loop μ-loop
-start-requires c κs = search needs
-
 -- ---- where the loop begins: the first slice has been run, its settings were chosen before, and before that the call began
 module _ (z : tie.After-struct-known Inv-loop μ-loop) where
   abbrev started : tie.After-start Inv-loop μ-loop
@@ -61,32 +52,11 @@ module _ (z : tie.After-struct-known Inv-loop μ-loop) where
   begun-here : Going (entered .args .settings) (entered .args .code .now) whole rest first-answer
   begun-here = begun _ _ _ _ _ (entered .pre) (chosen .before .slice-of .ensures) (chosen .budgeted .ensures) (started .start .ensures)
 
-sub-left : tie.Need-sub-left Inv-loop μ-loop
-sub-left c = search needs
-
 loop-holds : tie.Need-loop-holds Inv-loop μ-loop
 loop-holds c = (record { finishes = refl; few = begun-here c .few }, refl, refl, refl)
 
-is-stopped-requires : tie.Need-is-stopped-requires Inv-loop μ-loop
-is-stopped-requires c κs = search needs
-
-say-progress-requires : tie.Need-say-progress-requires Inv-loop μ-loop
-say-progress-requires c κs = search needs
-
-slice-of-requires-2 : tie.Need-slice-of-requires-2 Inv-loop μ-loop
-slice-of-requires-2 c κs = search needs
-
-budgeted-requires-2 : tie.Need-budgeted-requires-2 Inv-loop μ-loop
-budgeted-requires-2 c κs = search needs
-
 go-further-requires : tie.Need-go-further-requires Inv-loop μ-loop
 go-further-requires c κs = omega (arith, ap (λ (q : Settings). q .budget) (c .before .before .before .budgeted2 .ensures))
-
-sub-left-2 : tie.Need-sub-left-2 Inv-loop μ-loop
-sub-left-2 c = search needs
-
-loop-less : tie.Need-loop-less Inv-loop μ-loop
-loop-less c = search needs
 
 loop-again : tie.Need-loop-again Inv-loop μ-loop
 loop-again c =
@@ -101,26 +71,8 @@ loop-again c =
       search needs,
     )
 
-same-length : tie.Need-same-length Inv-loop μ-loop
-same-length c = search needs
-
-same-length-2 : tie.Need-same-length-2 Inv-loop μ-loop
-same-length-2 c = search needs
-
-same-length-3 : tie.Need-same-length-3 Inv-loop μ-loop
-same-length-3 c = search needs
-
 returns : tie.Need-returns Inv-loop μ-loop
 returns c = spent (c .before .loop .inv .0) (omega arith) ∙ sym (begun-here (c .before .before) .finishes)
-
-same-length-4 : tie.Need-same-length-4 Inv-loop μ-loop
-same-length-4 c = search needs
-
-same-length-5 : tie.Need-same-length-5 Inv-loop μ-loop
-same-length-5 c = search needs
-
-same-length-6 : tie.Need-same-length-6 Inv-loop μ-loop
-same-length-6 c = search needs
 
 returns-2 : tie.Need-returns-2 Inv-loop μ-loop
 returns-2 c =
@@ -128,29 +80,8 @@ returns-2 c =
     over (l .loop .inv .0) (sym (c .before .is-stopped .ensures) ∙ not-true _ (c .if1 .taken)) ∙ sym (begun-here (l .before) .finishes)
 
 pub run-in-slices-spec : {M : Type 1} → statement M
-run-in-slices-spec =
-    tie.close
-    (tie.spec
-    Inv-loop
-    μ-loop
-    slice-of-requires
-    budgeted-requires
-    start-requires
-    sub-left
-    loop-holds
-    is-stopped-requires
-    say-progress-requires
-    slice-of-requires-2
-    budgeted-requires-2
-    go-further-requires
-    sub-left-2
-    loop-less
-    loop-again
-    same-length
-    same-length-2
-    same-length-3
-    returns
-    same-length-4
-    same-length-5
-    same-length-6
-    returns-2)
+run-in-slices-spec = tie.close (tie.spec
+    Inv-loop μ-loop (λ c κs. search needs) (λ c κs. search needs) (λ c κs. search needs) (λ c. search needs) loop-holds
+    (λ c κs. search needs) (λ c κs. search needs) (λ c κs. search needs) (λ c κs. search needs) go-further-requires (λ c. search needs)
+    (λ c. search needs) loop-again (λ c. search needs) (λ c. search needs) (λ c. search needs) returns (λ c. search needs)
+    (λ c. search needs) (λ c. search needs) returns-2)

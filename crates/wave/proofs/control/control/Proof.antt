@@ -7,66 +7,6 @@ use borrow.Author.Needs.{needs}
 use Rattle.wave.proofs.control.control.Statement.{statement}
 use Rattle.wave.proofs.control.control.Tie as tie
 
-enum-told : tie.Need-enum-told
-enum-told c = search needs
-
-open-if-requires : tie.Need-open-if-requires
-open-if-requires c κs = search needs
-
-enum-told-2 : tie.Need-enum-told-2
-enum-told-2 c = search needs
-
-turn-if-requires : tie.Need-turn-if-requires
-turn-if-requires c κs = search needs
-
-enum-told-3 : tie.Need-enum-told-3
-enum-told-3 c = search needs
-
-close-if-requires : tie.Need-close-if-requires
-close-if-requires c κs = search needs
-
-enum-told-4 : tie.Need-enum-told-4
-enum-told-4 c = search needs
-
-open-loop-requires : tie.Need-open-loop-requires
-open-loop-requires c κs = search needs
-
-enum-told-5 : tie.Need-enum-told-5
-enum-told-5 c = search needs
-
-break-out-requires : tie.Need-break-out-requires
-break-out-requires c κs = search needs
-
-enum-told-6 : tie.Need-enum-told-6
-enum-told-6 c = search needs
-
-go-on-requires : tie.Need-go-on-requires
-go-on-requires c κs = search needs
-
-enum-told-7 : tie.Need-enum-told-7
-enum-told-7 c = search needs
-
-end-loop-requires : tie.Need-end-loop-requires
-end-loop-requires c κs = search needs
-
-enum-told-8 : tie.Need-enum-told-8
-enum-told-8 c = search needs
-
-halt-requires : tie.Need-halt-requires
-halt-requires c κs = search needs
-
-enum-told-9 : tie.Need-enum-told-9
-enum-told-9 c = search needs
-
-meet-requires : tie.Need-meet-requires
-meet-requires c κs = search needs
-
-enum-told-10 : tie.Need-enum-told-10
-enum-told-10 c = search needs
-
-pass-requires : tie.Need-pass-requires
-pass-requires c κs = search needs
-
 returns : tie.Need-returns
 unfolding controlRule faultLanes
 returns c = let s = c .before .before .before .before .args in by-rule _ If (s .all) (s .t) (s .h) _ (s .bl .now) _ (c .before .before .enum-told .given .1) (c .open-if .ensures) refl
@@ -108,36 +48,9 @@ unfolding controlRule faultLanes
 returns-10 c = let s = c .before .before .before .before .args in by-rule _ Nop (s .all) (s .t) (s .h) _ (s .bl .now) _ (c .before .before .enum-told10 .given .1) (c .pass .ensures) refl
 
 pub control-spec : {M : Type 1} → statement M
-control-spec =
-    tie.close
-    (tie.spec
-    enum-told
-    open-if-requires
-    enum-told-2
-    turn-if-requires
-    enum-told-3
-    close-if-requires
-    enum-told-4
-    open-loop-requires
-    enum-told-5
-    break-out-requires
-    enum-told-6
-    go-on-requires
-    enum-told-7
-    end-loop-requires
-    enum-told-8
-    halt-requires
-    enum-told-9
-    meet-requires
-    enum-told-10
-    pass-requires
-    returns
-    returns-2
-    returns-3
-    returns-4
-    returns-5
-    returns-6
-    returns-7
-    returns-8
-    returns-9
+control-spec = tie.close (tie.spec
+    (λ c. search needs) (λ c κs. search needs) (λ c. search needs) (λ c κs. search needs) (λ c. search needs) (λ c κs. search needs)
+    (λ c. search needs) (λ c κs. search needs) (λ c. search needs) (λ c κs. search needs) (λ c. search needs) (λ c κs. search needs)
+    (λ c. search needs) (λ c κs. search needs) (λ c. search needs) (λ c κs. search needs) (λ c. search needs) (λ c κs. search needs)
+    (λ c. search needs) (λ c κs. search needs) returns returns-2 returns-3 returns-4 returns-5 returns-6 returns-7 returns-8 returns-9
     returns-10)

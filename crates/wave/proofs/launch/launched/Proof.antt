@@ -3,11 +3,8 @@ use borrow.Author.Needs.{needs}
 use Rattle.wave.proofs.launch.launched.Statement.{statement}
 use Rattle.wave.proofs.launch.launched.Tie as tie
 
-first-requires : tie.Need-first-requires
-first-requires c κs = search needs
-
 returns : tie.Need-returns
 returns c = rw (c .first .ensures)
 
 pub launched-spec : {M : Type 1} → statement M
-launched-spec = tie.close (tie.spec first-requires returns)
+launched-spec = tie.close (tie.spec (λ c κs. search needs) returns)

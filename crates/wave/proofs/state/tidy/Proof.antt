@@ -22,26 +22,8 @@ whole-requires c κs = tt
 depth-of-requires : tie.Need-depth-of-requires Inv-loop μ-loop
 depth-of-requires c κs = tt
 
-cast-k : tie.Need-cast-k Inv-loop μ-loop
-cast-k c = omega arith
-
-mul-k : tie.Need-mul-k Inv-loop μ-loop
-mul-k c = omega arith
-
 loop-holds : tie.Need-loop-holds Inv-loop μ-loop
 loop-holds c = (omega (arith, min-le-right (c .before .before .before .args .h .depth) nesting), c .before .whole .ensures, refl)
-
-mul-bl : tie.Need-mul-bl Inv-loop μ-loop
-mul-bl c = omega arith
-
-element-write-bl : tie.Need-element-write-bl Inv-loop μ-loop
-element-write-bl c = omega arith
-
-add-k : tie.Need-add-k Inv-loop μ-loop
-add-k c = omega arith
-
-loop-less : tie.Need-loop-less Inv-loop μ-loop
-loop-less c = omega arith
 
 loop-again : tie.Need-loop-again Inv-loop μ-loop
 loop-again c = let l = c .before .loop in
@@ -54,19 +36,6 @@ returns c = let l = c .before .loop in
     (wipe-end (l .k) (l .bl) (omega arith) (omega arith) (l .inv .1) ∙ l .inv .2)
 
 pub tidy-spec : {M : Type 1} → statement M
-tidy-spec =
-    tie.close
-    (tie.spec
-    Inv-loop
-    μ-loop
-    whole-requires
-    depth-of-requires
-    cast-k
-    mul-k
-    loop-holds
-    mul-bl
-    element-write-bl
-    add-k
-    loop-less
-    loop-again
-    returns)
+tidy-spec = tie.close (tie.spec
+    Inv-loop μ-loop whole-requires depth-of-requires (λ c. omega arith) (λ c. omega arith) loop-holds (λ c. omega arith) (λ c. omega arith)
+    (λ c. omega arith) (λ c. omega arith) loop-again returns)

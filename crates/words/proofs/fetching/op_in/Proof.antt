@@ -6,18 +6,11 @@ use borrow.Author.Needs.{needs}
 use Rattle.words.proofs.fetching.op_in.Statement.{statement}
 use Rattle.words.proofs.fetching.op_in.Tie as tie
 
-memory-or-control-op-requires : tie.Need-memory-or-control-op-requires
-memory-or-control-op-requires c κs = search needs
-
 returns : tie.Need-returns
 returns c = c .memory-or-control-op .ensures ∙ sym (of-memory-or-control _ (modifierIn (c .before .before .args .first)) (c .before .if1 .taken))
-
-register-op-requires : tie.Need-register-op-requires
-register-op-requires c κs = search needs
 
 returns-2 : tie.Need-returns-2
 returns-2 c = c .register-op .ensures ∙ sym (of-registers _ (modifierIn (c .before .before .args .first)) (c .before .if1 .left))
 
 pub op-in-spec : {M : Type 1} → statement M
-op-in-spec =
-    tie.close (tie.spec memory-or-control-op-requires returns register-op-requires returns-2)
+op-in-spec = tie.close (tie.spec (λ c κs. search needs) returns (λ c κs. search needs) returns-2)

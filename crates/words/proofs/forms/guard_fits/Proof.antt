@@ -3,11 +3,8 @@ use borrow.Author.Needs.{needs}
 use Rattle.words.proofs.forms.guard_fits.Statement.{statement}
 use Rattle.words.proofs.forms.guard_fits.Tie as tie
 
-need-met-requires : tie.Need-need-met-requires
-need-met-requires c κs = search needs
-
 returns : tie.Need-returns
 returns c = rw (c .need-met .ensures)
 
 pub guard-fits-spec : {M : Type 1} → statement M
-guard-fits-spec = tie.close (tie.spec need-met-requires returns)
+guard-fits-spec = tie.close (tie.spec (λ c κs. search needs) returns)

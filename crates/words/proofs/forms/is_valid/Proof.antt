@@ -6,14 +6,8 @@ use borrow.Author.Needs.{needs}
 use Rattle.words.proofs.forms.is_valid.Statement.{statement}
 use Rattle.words.proofs.forms.is_valid.Tie as tie
 
-limits-of-requires : tie.Need-limits-of-requires
-limits-of-requires c κs = search needs
-
-fits-requires : tie.Need-fits-requires
-fits-requires c κs = search needs
-
 returns : tie.Need-returns
 returns c = c .fits2 .ensures ∙ ap (λ (l : Limits). fits l (c .before .before .args .instr)) (c .before .limits-of .ensures)
 
 pub is-valid-spec : {M : Type 1} → statement M
-is-valid-spec = tie.close (tie.spec limits-of-requires fits-requires returns)
+is-valid-spec = tie.close (tie.spec (λ c κs. search needs) (λ c κs. search needs) returns)

@@ -7,69 +7,6 @@ use borrow.Author.Needs.{needs}
 use Rattle.words.proofs.forms.limits_of.Statement.{statement}
 use Rattle.words.proofs.forms.limits_of.Tie as tie
 
-enum-told : tie.Need-enum-told
-enum-told c = search needs
-
-form-requires : tie.Need-form-requires
-form-requires c κs = search needs
-
-enum-told-2 : tie.Need-enum-told-2
-enum-told-2 c = search needs
-
-form-requires-2 : tie.Need-form-requires-2
-form-requires-2 c κs = search needs
-
-enum-told-3 : tie.Need-enum-told-3
-enum-told-3 c = search needs
-
-form-requires-3 : tie.Need-form-requires-3
-form-requires-3 c κs = search needs
-
-enum-told-4 : tie.Need-enum-told-4
-enum-told-4 c = search needs
-
-form-requires-4 : tie.Need-form-requires-4
-form-requires-4 c κs = search needs
-
-enum-told-5 : tie.Need-enum-told-5
-enum-told-5 c = search needs
-
-form-requires-5 : tie.Need-form-requires-5
-form-requires-5 c κs = search needs
-
-enum-told-6 : tie.Need-enum-told-6
-enum-told-6 c = search needs
-
-form-requires-6 : tie.Need-form-requires-6
-form-requires-6 c κs = search needs
-
-enum-told-7 : tie.Need-enum-told-7
-enum-told-7 c = search needs
-
-form-requires-7 : tie.Need-form-requires-7
-form-requires-7 c κs = search needs
-
-enum-told-8 : tie.Need-enum-told-8
-enum-told-8 c = search needs
-
-form-requires-8 : tie.Need-form-requires-8
-form-requires-8 c κs = search needs
-
-enum-told-9 : tie.Need-enum-told-9
-enum-told-9 c = search needs
-
-form-requires-9 : tie.Need-form-requires-9
-form-requires-9 c κs = search needs
-
-enum-known-op : tie.Need-enum-known-op
-enum-known-op c = search needs
-
-need-of-requires : tie.Need-need-of-requires
-need-of-requires c κs = search needs
-
-form-requires-10 : tie.Need-form-requires-10
-form-requires-10 c κs = search needs
-
 returns : tie.Need-returns
 returns c = rw (c .before .enum-told .given .1) (c .form .ensures)
 
@@ -101,37 +38,9 @@ returns-10 : tie.Need-returns-10
 returns-10 c = rw (c .before .before .before .op .given .1) (c .form10 .ensures ∙ ap (λ (n : Need). form 0 0 0 n Second.Nothing) (c .before .need-of .ensures))
 
 pub limits-of-spec : {M : Type 1} → statement M
-limits-of-spec =
-    tie.close
-    (tie.spec
-    enum-told
-    form-requires
-    enum-told-2
-    form-requires-2
-    enum-told-3
-    form-requires-3
-    enum-told-4
-    form-requires-4
-    enum-told-5
-    form-requires-5
-    enum-told-6
-    form-requires-6
-    enum-told-7
-    form-requires-7
-    enum-told-8
-    form-requires-8
-    enum-told-9
-    form-requires-9
-    enum-known-op
-    need-of-requires
-    form-requires-10
-    returns
-    returns-2
-    returns-3
-    returns-4
-    returns-5
-    returns-6
-    returns-7
-    returns-8
-    returns-9
-    returns-10)
+limits-of-spec = tie.close (tie.spec
+    (λ c. search needs) (λ c κs. search needs) (λ c. search needs) (λ c κs. search needs) (λ c. search needs) (λ c κs. search needs)
+    (λ c. search needs) (λ c κs. search needs) (λ c. search needs) (λ c κs. search needs) (λ c. search needs) (λ c κs. search needs)
+    (λ c. search needs) (λ c κs. search needs) (λ c. search needs) (λ c κs. search needs) (λ c. search needs) (λ c κs. search needs)
+    (λ c. search needs) (λ c κs. search needs) (λ c κs. search needs) returns returns-2 returns-3 returns-4 returns-5 returns-6 returns-7
+    returns-8 returns-9 returns-10)

@@ -3,15 +3,6 @@ use borrow.Author.Needs.{needs}
 use Rattle.words.proofs.forms.second_fits.Statement.{statement}
 use Rattle.words.proofs.forms.second_fits.Tie as tie
 
-enum-told : tie.Need-enum-told
-enum-told c = search needs
-
-enum-told-2 : tie.Need-enum-told-2
-enum-told-2 c = search needs
-
-enum-known-second : tie.Need-enum-known-second
-enum-known-second c = search needs
-
 returns : tie.Need-returns
 returns c = rw (c .before .before .before .before .enum-told .given .1)
 
@@ -22,5 +13,4 @@ returns-3 : tie.Need-returns-3
 returns-3 c = rw (c .before .before .before .before .before .second .given .1)
 
 pub second-fits-spec : {M : Type 1} → statement M
-second-fits-spec =
-    tie.close (tie.spec enum-told enum-told-2 enum-known-second returns returns-2 returns-3)
+second-fits-spec = tie.close (tie.spec (λ c. search needs) (λ c. search needs) (λ c. search needs) returns returns-2 returns-3)

@@ -36,45 +36,12 @@ size-is z = z .size-of .ensures ∙ ap (λ (l : Limits). sizeOf (l .second)) (z 
 returns : tie.Need-returns
 returns c = sym (past _ _ (c .if1 .taken))
 
-mul-first : tie.Need-mul-first
-mul-first c = search needs
-
-shared-slice-read-first : tie.Need-shared-slice-read-first
-shared-slice-read-first c = search needs
-
-op-of-requires : tie.Need-op-of-requires
-op-of-requires c κs = search needs
-
-enum-known-found : tie.Need-enum-known-found
-enum-known-found c = search needs
-
-enum-told : tie.Need-enum-told
-enum-told c = search needs
-
 returns-2 : tie.Need-returns-2
 returns-2 c =
     sym (missing _ _ (c .before .before .before .before .if1 .left) (sym (c .before .before .op-of .ensures) ∙ c .enum-told .given .1))
 
-limits-of-requires : tie.Need-limits-of-requires
-limits-of-requires c κs = search needs
-
-sub-if2 : tie.Need-sub-if2
-sub-if2 c = search needs
-
-size-of-requires : tie.Need-size-of-requires
-size-of-requires c κs = search needs
-
 returns-3 : tie.Need-returns-3
 returns-3 c = sym (short _ _ (here (c .before)) (op-at (c .before)) (named (c .before)) (rw (size-is (c .before)) at (c .if2 .taken)))
-
-add-word-at : tie.Need-add-word-at
-add-word-at c = search needs
-
-word-at-requires : tie.Need-word-at-requires
-word-at-requires c κs = search needs
-
-read-fields-requires : tie.Need-read-fields-requires
-read-fields-requires c κs = search needs
 
 returns-4 : tie.Need-returns-4
 returns-4 c =
@@ -85,21 +52,7 @@ returns-4 c =
     (c .before .word-at .ensures) (rw (size-is z) at (c .before .before .if2 .left)))
 
 pub read-at-spec : {M : Type 1} → statement M
-read-at-spec =
-    tie.close
-    (tie.spec
-    returns
-    mul-first
-    shared-slice-read-first
-    op-of-requires
-    enum-known-found
-    enum-told
-    returns-2
-    limits-of-requires
-    sub-if2
-    size-of-requires
-    returns-3
-    add-word-at
-    word-at-requires
-    read-fields-requires
-    returns-4)
+read-at-spec = tie.close (tie.spec
+    returns (λ c. search needs) (λ c. search needs) (λ c κs. search needs) (λ c. search needs) (λ c. search needs) returns-2
+    (λ c κs. search needs) (λ c. search needs) (λ c κs. search needs) returns-3 (λ c. search needs) (λ c κs. search needs)
+    (λ c κs. search needs) returns-4)

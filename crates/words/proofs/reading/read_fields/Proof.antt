@@ -21,18 +21,6 @@ fields-of z {t} e =
     fields-are (a .op) (a .limits) (a .first) (a .word) (a .at) _ _ _ _ t (z .before .before .before .instr-in .ensures) (z .before .before .size-of .ensures)
     (z .before .spare-zero .ensures) (z .fits2 .ensures) e
 
-instr-in-requires : tie.Need-instr-in-requires
-instr-in-requires c κs = search needs
-
-size-of-requires : tie.Need-size-of-requires
-size-of-requires c κs = search needs
-
-spare-zero-requires : tie.Need-spare-zero-requires
-spare-zero-requires c κs = search needs
-
-fits-requires : tie.Need-fits-requires
-fits-requires c κs = search needs
-
 returns : tie.Need-returns
 returns c = fields-of (c .before) (c .if1 .taken)
 
@@ -40,12 +28,5 @@ returns-2 : tie.Need-returns-2
 returns-2 c = fields-of (c .before) (c .if1 .left)
 
 pub read-fields-spec : {M : Type 1} → statement M
-read-fields-spec =
-    tie.close
-    (tie.spec
-    instr-in-requires
-    size-of-requires
-    spare-zero-requires
-    fits-requires
-    returns
-    returns-2)
+read-fields-spec = tie.close (tie.spec
+    (λ c κs. search needs) (λ c κs. search needs) (λ c κs. search needs) (λ c κs. search needs) returns returns-2)

@@ -3,11 +3,8 @@ use borrow.Author.Needs.{needs}
 use Rattle.words.proofs.reading.spare_zero.Statement.{statement}
 use Rattle.words.proofs.reading.spare_zero.Tie as tie
 
-second-spare-requires : tie.Need-second-spare-requires
-second-spare-requires c κs = search needs
-
 returns : tie.Need-returns
 returns c = rw (c .second-spare .ensures)
 
 pub spare-zero-spec : {M : Type 1} → statement M
-spare-zero-spec = tie.close (tie.spec second-spare-requires returns)
+spare-zero-spec = tie.close (tie.spec (λ c κs. search needs) returns)

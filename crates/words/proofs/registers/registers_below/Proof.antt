@@ -6,21 +6,6 @@ use borrow.Author.Needs.{needs}
 use Rattle.words.proofs.registers.registers_below.Statement.{statement}
 use Rattle.words.proofs.registers.registers_below.Tie as tie
 
-registers-of-requires : tie.Need-registers-of-requires
-registers-of-requires c κs = search needs
-
-field-below-requires : tie.Need-field-below-requires
-field-below-requires c κs = search needs
-
-field-below-requires-2 : tie.Need-field-below-requires-2
-field-below-requires-2 c κs = search needs
-
-field-below-requires-3 : tie.Need-field-below-requires-3
-field-below-requires-3 c κs = search needs
-
-field-below-requires-4 : tie.Need-field-below-requires-4
-field-below-requires-4 c κs = search needs
-
 returns : tie.Need-returns
 returns c =
     let k = c .before .before .before in
@@ -30,12 +15,5 @@ returns c =
     (ap (λ (used : Registers). allBelow R used i) (k .before .registers-of .ensures))
 
 pub registers-below-spec : {M : Type 1} → statement M
-registers-below-spec =
-    tie.close
-    (tie.spec
-    registers-of-requires
-    field-below-requires
-    field-below-requires-2
-    field-below-requires-3
-    field-below-requires-4
-    returns)
+registers-below-spec = tie.close (tie.spec
+    (λ c κs. search needs) (λ c κs. search needs) (λ c κs. search needs) (λ c κs. search needs) (λ c κs. search needs) returns)

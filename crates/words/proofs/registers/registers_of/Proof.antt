@@ -3,66 +3,6 @@ use borrow.Author.Needs.{needs}
 use Rattle.words.proofs.registers.registers_of.Statement.{statement}
 use Rattle.words.proofs.registers.registers_of.Tie as tie
 
-enum-told : tie.Need-enum-told
-enum-told c = search needs
-
-fields-requires : tie.Need-fields-requires
-fields-requires c κs = search needs
-
-enum-told-2 : tie.Need-enum-told-2
-enum-told-2 c = search needs
-
-fields-requires-2 : tie.Need-fields-requires-2
-fields-requires-2 c κs = search needs
-
-enum-told-3 : tie.Need-enum-told-3
-enum-told-3 c = search needs
-
-fields-requires-3 : tie.Need-fields-requires-3
-fields-requires-3 c κs = search needs
-
-enum-told-4 : tie.Need-enum-told-4
-enum-told-4 c = search needs
-
-fields-requires-4 : tie.Need-fields-requires-4
-fields-requires-4 c κs = search needs
-
-enum-told-5 : tie.Need-enum-told-5
-enum-told-5 c = search needs
-
-fields-requires-5 : tie.Need-fields-requires-5
-fields-requires-5 c κs = search needs
-
-enum-told-6 : tie.Need-enum-told-6
-enum-told-6 c = search needs
-
-fields-requires-6 : tie.Need-fields-requires-6
-fields-requires-6 c κs = search needs
-
-enum-told-7 : tie.Need-enum-told-7
-enum-told-7 c = search needs
-
-fields-requires-7 : tie.Need-fields-requires-7
-fields-requires-7 c κs = search needs
-
-enum-told-8 : tie.Need-enum-told-8
-enum-told-8 c = search needs
-
-fields-requires-8 : tie.Need-fields-requires-8
-fields-requires-8 c κs = search needs
-
-enum-told-9 : tie.Need-enum-told-9
-enum-told-9 c = search needs
-
-fields-requires-9 : tie.Need-fields-requires-9
-fields-requires-9 c κs = search needs
-
-enum-told-10 : tie.Need-enum-told-10
-enum-told-10 c = search needs
-
-fields-requires-10 : tie.Need-fields-requires-10
-fields-requires-10 c κs = search needs
-
 returns : tie.Need-returns
 returns c = rw (c .before .enum-told .given .1) (c .fields .ensures)
 
@@ -94,36 +34,9 @@ returns-10 : tie.Need-returns-10
 returns-10 c = rw (c .before .enum-told10 .given .1) (c .fields10 .ensures)
 
 pub registers-of-spec : {M : Type 1} → statement M
-registers-of-spec =
-    tie.close
-    (tie.spec
-    enum-told
-    fields-requires
-    enum-told-2
-    fields-requires-2
-    enum-told-3
-    fields-requires-3
-    enum-told-4
-    fields-requires-4
-    enum-told-5
-    fields-requires-5
-    enum-told-6
-    fields-requires-6
-    enum-told-7
-    fields-requires-7
-    enum-told-8
-    fields-requires-8
-    enum-told-9
-    fields-requires-9
-    enum-told-10
-    fields-requires-10
-    returns
-    returns-2
-    returns-3
-    returns-4
-    returns-5
-    returns-6
-    returns-7
-    returns-8
-    returns-9
+registers-of-spec = tie.close (tie.spec
+    (λ c. search needs) (λ c κs. search needs) (λ c. search needs) (λ c κs. search needs) (λ c. search needs) (λ c κs. search needs)
+    (λ c. search needs) (λ c κs. search needs) (λ c. search needs) (λ c κs. search needs) (λ c. search needs) (λ c κs. search needs)
+    (λ c. search needs) (λ c κs. search needs) (λ c. search needs) (λ c κs. search needs) (λ c. search needs) (λ c κs. search needs)
+    (λ c. search needs) (λ c κs. search needs) returns returns-2 returns-3 returns-4 returns-5 returns-6 returns-7 returns-8 returns-9
     returns-10)

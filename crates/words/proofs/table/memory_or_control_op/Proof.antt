@@ -7,20 +7,11 @@ use borrow.Author.Needs.{needs}
 use Rattle.words.proofs.table.memory_or_control_op.Statement.{statement}
 use Rattle.words.proofs.table.memory_or_control_op.Tie as tie
 
-control-op-requires : tie.Need-control-op-requires
-control-op-requires c κs = search needs
-
 returns : tie.Need-returns
 returns c = rw (c .before .if1 .taken) (named-find modifierOf controls _ _ (c .control-op .ensures))
 
-atomic-op-requires : tie.Need-atomic-op-requires
-atomic-op-requires c κs = search needs
-
 returns-2 : tie.Need-returns-2
 returns-2 c = rw (c .before .if2 .taken) (named-find modifierOf atomics _ _ (c .atomic-op .ensures))
-
-access-op-requires : tie.Need-access-op-requires
-access-op-requires c κs = search needs
 
 returns-3 : tie.Need-returns-3
 returns-3 c =
@@ -31,5 +22,5 @@ returns-4 : tie.Need-returns-4
 returns-4 c = sym (not-listed _ _ (c .before .before .if1 .left) (c .before .if2 .left) (c .if3 .left))
 
 pub memory-or-control-op-spec : {M : Type 1} → statement M
-memory-or-control-op-spec =
-    tie.close (tie.spec control-op-requires returns atomic-op-requires returns-2 access-op-requires returns-3 returns-4)
+memory-or-control-op-spec = tie.close (tie.spec
+    (λ c κs. search needs) returns (λ c κs. search needs) returns-2 (λ c κs. search needs) returns-3 returns-4)

@@ -5,18 +5,11 @@ use borrow.Author.Needs.{needs}
 use Rattle.words.proofs.table.op_of.Statement.{statement}
 use Rattle.words.proofs.table.op_of.Tie as tie
 
-memory-or-control-op-requires : tie.Need-memory-or-control-op-requires
-memory-or-control-op-requires c κs = search needs
-
 returns : tie.Need-returns
 returns c = c .memory-or-control-op .ensures ∙ sym (of-memory-or-control _ (c .before .before .args .modifier) (c .before .if1 .taken))
-
-register-op-requires : tie.Need-register-op-requires
-register-op-requires c κs = search needs
 
 returns-2 : tie.Need-returns-2
 returns-2 c = c .register-op .ensures ∙ sym (of-registers _ (c .before .before .args .modifier) (c .before .if1 .left))
 
 pub op-of-spec : {M : Type 1} → statement M
-op-of-spec =
-    tie.close (tie.spec memory-or-control-op-requires returns register-op-requires returns-2)
+op-of-spec = tie.close (tie.spec (λ c κs. search needs) returns (λ c κs. search needs) returns-2)

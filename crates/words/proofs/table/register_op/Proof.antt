@@ -10,24 +10,15 @@ use Rattle.words.proofs.table.register_op.Tie as tie
 returns : tie.Need-returns
 returns c = sym (none-modified (c .before .args .opcode) _ (c .if1 .taken))
 
-sum-op-requires : tie.Need-sum-op-requires
-sum-op-requires c κs = search needs
-
 returns-2 : tie.Need-returns-2
 returns-2 c =
     named-find opcodeOf sums _ _ (c .sum-op .ensures)
     ∙ sym (among-sums _ _ (c .before .before .if1 .left) (c .before .if2 .taken))
 
-bitwise-op-requires : tie.Need-bitwise-op-requires
-bitwise-op-requires c κs = search needs
-
 returns-3 : tie.Need-returns-3
 returns-3 c =
     named-find opcodeOf bitwise _ _ (c .bitwise-op .ensures)
     ∙ sym (among-bitwise _ _ (c .before .before .before .if1 .left) (c .before .before .if2 .left) (c .before .if3 .taken))
-
-move-op-requires : tie.Need-move-op-requires
-move-op-requires c κs = search needs
 
 returns-4 : tie.Need-returns-4
 returns-4 c =
@@ -35,5 +26,5 @@ returns-4 c =
     ∙ sym (among-moves _ _ (c .before .before .before .if1 .left) (c .before .if3 .left))
 
 pub register-op-spec : {M : Type 1} → statement M
-register-op-spec =
-    tie.close (tie.spec returns sum-op-requires returns-2 bitwise-op-requires returns-3 move-op-requires returns-4)
+register-op-spec = tie.close (tie.spec
+    returns (λ c κs. search needs) returns-2 (λ c κs. search needs) returns-3 (λ c κs. search needs) returns-4)

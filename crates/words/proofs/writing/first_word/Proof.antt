@@ -16,32 +16,11 @@ small z =
       rw (z .negate-bit .ensures) (negate-small (z .before .before .before .before .args .instr .guard)),
     )
 
-opcode-of-requires : tie.Need-opcode-of-requires
-opcode-of-requires c κs = search needs
-
-modifier-of-requires : tie.Need-modifier-of-requires
-modifier-of-requires c κs = search needs
-
-negate-bit-requires : tie.Need-negate-bit-requires
-negate-bit-requires c κs = search needs
-
 mul-result : tie.Need-mul-result
 mul-result c = let s = small c in omega arith
 
-cast-result : tie.Need-cast-result
-cast-result c = search needs
-
-mul-result-2 : tie.Need-mul-result-2
-mul-result-2 c = search needs
-
 add-result : tie.Need-add-result
 add-result c = let s = small (c .before) in omega arith
-
-cast-result-2 : tie.Need-cast-result-2
-cast-result-2 c = search needs
-
-mul-result-3 : tie.Need-mul-result-3
-mul-result-3 c = search needs
 
 add-result-2 : tie.Need-add-result-2
 add-result-2 c = let s = small (c .before .before) in omega arith
@@ -55,32 +34,11 @@ add-result-3 c = let s = small (c .before .before) in omega arith
 add-result-4 : tie.Need-add-result-4
 add-result-4 c = let s = small (c .before .before) in omega arith
 
-cast-result-3 : tie.Need-cast-result-3
-cast-result-3 c = search needs
-
 add-result-5 : tie.Need-add-result-5
 add-result-5 c = let s = small (c .before .before .before) in omega arith
 
-returns : tie.Need-returns
-returns c = search needs
-
 pub first-word-spec : {M : Type 1} → statement M
-first-word-spec =
-    tie.close
-    (tie.spec
-    opcode-of-requires
-    modifier-of-requires
-    negate-bit-requires
-    mul-result
-    cast-result
-    mul-result-2
-    add-result
-    cast-result-2
-    mul-result-3
-    add-result-2
-    mul-result-4
-    add-result-3
-    add-result-4
-    cast-result-3
-    add-result-5
-    returns)
+first-word-spec = tie.close (tie.spec
+    (λ c κs. search needs) (λ c κs. search needs) (λ c κs. search needs) mul-result (λ c. search needs) (λ c. search needs) add-result
+    (λ c. search needs) (λ c. search needs) add-result-2 mul-result-4 add-result-3 add-result-4 (λ c. search needs) add-result-5
+    (λ c. search needs))

@@ -35,35 +35,17 @@ some z = rw (z .size-of .ensures) (size-positive (z .before .limits-of .result .
 alone : (z : tie.After-size-of) → (z .size-of .result ≡ 2 → ⊥) → z .size-of .result ≡ 1
 alone z h = z .size-of .ensures ∙ size-one (z .before .limits-of .result .second) (λ e. h (z .size-of .ensures ∙ e))
 
-is-valid-requires : tie.Need-is-valid-requires
-is-valid-requires c κs = search needs
-
 returns : tie.Need-returns
 returns c = not-valid (c .before .before .before .args .instr) _ (sym (c .before .is-valid .ensures) ∙ not-true _ (c .if1 .taken))
-
-limits-of-requires : tie.Need-limits-of-requires
-limits-of-requires c κs = search needs
-
-size-of-requires : tie.Need-size-of-requires
-size-of-requires c κs = search needs
 
 returns-2 : tie.Need-returns-2
 returns-2 c = no-room (instr-at (c .before)) (out-at (c .before)) (checked (c .before)) (rw (size-is (c .before)) at (c .if2 .taken))
 
-first-word-requires : tie.Need-first-word-requires
-first-word-requires c κs = search needs
-
 slice-write-out : tie.Need-slice-write-out
 slice-write-out c = let s = some (c .before .before) in omega arith
 
-second-word-requires : tie.Need-second-word-requires
-second-word-requires c κs = search needs
-
 slice-write-out-2 : tie.Need-slice-write-out-2
 slice-write-out-2 c = simp length-set (omega arith)
-
-same-length : tie.Need-same-length
-same-length c = search needs
 
 returns-3 : tie.Need-returns-3
 returns-3 c =
@@ -72,9 +54,6 @@ returns-3 c =
     wrote-two (instr-at z) (out-at z) (checked z) _ _ (size-is z) (h .first-word .ensures) (h .before .if2 .left) _
     (c .second-word .ensures ∙ ap (λ (l : Limits). getD (restOf (l .second) (instr-at z)) 0 0) (z .before .limits-of .ensures)) (c .before .if3 .taken)
 
-same-length-2 : tie.Need-same-length-2
-same-length-2 c = search needs
-
 returns-4 : tie.Need-returns-4
 returns-4 c =
     let h = c .before in
@@ -82,19 +61,6 @@ returns-4 c =
     wrote-one (instr-at z) (out-at z) (checked z) _ _ (size-is z) (h .first-word .ensures) (h .before .if2 .left) (alone z (c .if3 .left))
 
 pub write-spec : {M : Type 1} → statement M
-write-spec =
-    tie.close
-    (tie.spec
-    is-valid-requires
-    returns
-    limits-of-requires
-    size-of-requires
-    returns-2
-    first-word-requires
-    slice-write-out
-    second-word-requires
-    slice-write-out-2
-    same-length
-    returns-3
-    same-length-2
-    returns-4)
+write-spec = tie.close (tie.spec
+    (λ c κs. search needs) returns (λ c κs. search needs) (λ c κs. search needs) returns-2 (λ c κs. search needs) slice-write-out
+    (λ c κs. search needs) slice-write-out-2 (λ c. search needs) returns-3 (λ c. search needs) returns-4)

@@ -18,15 +18,6 @@ abbrev μ-loop : tie.MeasureT-loop
 loop-holds : tie.Need-loop-holds Inv-loop μ-loop
 loop-holds c = (omega (arith, c .pre), refl)
 
-sub-i : tie.Need-sub-i Inv-loop μ-loop
-sub-i c = omega arith
-
-same-block-requires : tie.Need-same-block-requires Inv-loop μ-loop
-same-block-requires c κs = omega arith
-
-loop-less : tie.Need-loop-less Inv-loop μ-loop
-loop-less c = omega arith
-
 loop-again : tie.Need-loop-again Inv-loop μ-loop
 loop-again c = let l = c .before .before .loop in
     let s = c .before .before .before .args in
@@ -38,6 +29,5 @@ returns c = let l = c .before .loop in
     same-end (s .bl .now) (s .stack .parts) (s .stack .openers) (l .ok) (l .i) (s .d) (omega arith) (l .inv .1)
 
 pub same-blocks-spec : {M : Type 1} → statement M
-same-blocks-spec =
-    tie.close
-    (tie.spec Inv-loop μ-loop loop-holds sub-i same-block-requires loop-less loop-again returns)
+same-blocks-spec = tie.close (tie.spec
+    Inv-loop μ-loop loop-holds (λ c. omega arith) (λ c κs. omega arith) (λ c. omega arith) loop-again returns)

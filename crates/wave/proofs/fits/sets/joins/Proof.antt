@@ -3,11 +3,8 @@ use borrow.Author.Needs.{needs}
 use Rattle.wave.proofs.fits.sets.joins.Statement.{statement}
 use Rattle.wave.proofs.fits.sets.joins.Tie as tie
 
-apart-requires : tie.Need-apart-requires
-apart-requires c κs = search needs
-
 returns : tie.Need-returns
 returns c = rw (c .apart .ensures)
 
 pub joins-spec : {M : Type 1} → statement M
-joins-spec = tie.close (tie.spec apart-requires returns)
+joins-spec = tie.close (tie.spec (λ c κs. search needs) returns)

@@ -23,20 +23,11 @@ depth-of-requires c κs = tt
 loop-holds : tie.Need-loop-holds Inv-loop μ-loop
 loop-holds c = (omega (arith, min-le-right (c .before .args .h .depth) nesting), refl)
 
-sub-i : tie.Need-sub-i Inv-loop μ-loop
-sub-i c = omega arith
-
-block-at-requires : tie.Need-block-at-requires Inv-loop μ-loop
-block-at-requires c κs = omega arith
-
 block-fits-requires : tie.Need-block-fits-requires Inv-loop μ-loop
 block-fits-requires c κs = tt
 
 with-aside-requires : tie.Need-with-aside-requires Inv-loop μ-loop
 with-aside-requires c κs = tt
-
-loop-less : tie.Need-loop-less Inv-loop μ-loop
-loop-less c = omega arith
 
 loop-again : tie.Need-loop-again Inv-loop μ-loop
 loop-again c = let l = c .before .before .before .before .loop in
@@ -65,21 +56,6 @@ returns c = let l = c .before .before .before .before .before .loop in
     (c .before .before .before .joins .ensures) (c .before .before .within .ensures) (c .before .within2 .ensures) (c .within3 .ensures)
 
 pub sets-fit-spec : {M : Type 1} → statement M
-sets-fit-spec =
-    tie.close
-    (tie.spec
-    Inv-loop
-    μ-loop
-    depth-of-requires
-    loop-holds
-    sub-i
-    block-at-requires
-    block-fits-requires
-    with-aside-requires
-    loop-less
-    loop-again
-    joins-requires
-    within-requires
-    within-requires-2
-    within-requires-3
-    returns)
+sets-fit-spec = tie.close (tie.spec
+    Inv-loop μ-loop depth-of-requires loop-holds (λ c. omega arith) (λ c κs. omega arith) block-fits-requires with-aside-requires
+    (λ c. omega arith) loop-again joins-requires within-requires within-requires-2 within-requires-3 returns)

@@ -5,11 +5,8 @@ use borrow.Author.Needs.{needs}
 use Rattle.wave.proofs.rules.aside.break_out.Statement.{statement}
 use Rattle.wave.proofs.rules.aside.break_out.Tie as tie
 
-set-aside-requires : tie.Need-set-aside-requires
-set-aside-requires c κs = search needs
-
 returns : tie.Need-returns
 returns c = c .set-aside .ensures (broken (c .before .before .args .t)) (λ b rest. refl)
 
 pub break-out-spec : {M : Type 1} → statement M
-break-out-spec = tie.close (tie.spec set-aside-requires returns)
+break-out-spec = tie.close (tie.spec (λ c κs. search needs) returns)

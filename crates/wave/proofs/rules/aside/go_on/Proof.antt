@@ -5,11 +5,8 @@ use borrow.Author.Needs.{needs}
 use Rattle.wave.proofs.rules.aside.go_on.Statement.{statement}
 use Rattle.wave.proofs.rules.aside.go_on.Tie as tie
 
-set-aside-requires : tie.Need-set-aside-requires
-set-aside-requires c κs = search needs
-
 returns : tie.Need-returns
 returns c = c .set-aside .ensures (continued (c .before .before .args .t)) (λ b rest. refl)
 
 pub go-on-spec : {M : Type 1} → statement M
-go-on-spec = tie.close (tie.spec set-aside-requires returns)
+go-on-spec = tie.close (tie.spec (λ c κs. search needs) returns)

@@ -28,42 +28,6 @@ depth-of-requires c κs = tt
 loop-holds : tie.Need-loop-holds Inv-loop μ-loop
 loop-holds c = (omega (arith, min-le-right (c .before .before .before .args .depth) nesting), c .before .whole .ensures, refl, refl)
 
-sub-i : tie.Need-sub-i Inv-loop μ-loop
-sub-i c = omega arith
-
-cast-k : tie.Need-cast-k Inv-loop μ-loop
-cast-k c = omega arith
-
-mul-k : tie.Need-mul-k Inv-loop μ-loop
-mul-k c = omega arith
-
-mul-if2 : tie.Need-mul-if2 Inv-loop μ-loop
-mul-if2 c = omega arith
-
-element-copy-out-if2 : tie.Need-element-copy-out-if2 Inv-loop μ-loop
-element-copy-out-if2 c = omega arith
-
-add-bl : tie.Need-add-bl Inv-loop μ-loop
-add-bl c = omega arith
-
-mul-bl : tie.Need-mul-bl Inv-loop μ-loop
-mul-bl c = omega arith
-
-element-copy-out-bl : tie.Need-element-copy-out-bl Inv-loop μ-loop
-element-copy-out-bl c = omega arith
-
-add-bl-2 : tie.Need-add-bl-2 Inv-loop μ-loop
-add-bl-2 c = omega arith
-
-mul-bl-2 : tie.Need-mul-bl-2 Inv-loop μ-loop
-mul-bl-2 c = omega arith
-
-element-write-bl : tie.Need-element-write-bl Inv-loop μ-loop
-element-write-bl c = omega arith
-
-loop-less : tie.Need-loop-less Inv-loop μ-loop
-loop-less c = omega arith
-
 loop-again : tie.Need-loop-again Inv-loop μ-loop
 loop-again c = let l = c .before .before .before .before .loop in
     let p : 0 < l .i = omega (arith, c .before .before .before .if1 .left) in (
@@ -91,26 +55,7 @@ returns-2 c = let l = c .before .before .before .loop in
     )
 
 pub leave-inner-spec : {M : Type 1} → statement M
-leave-inner-spec =
-    tie.close
-    (tie.spec
-    Inv-loop
-    μ-loop
-    whole-requires
-    depth-of-requires
-    loop-holds
-    sub-i
-    cast-k
-    mul-k
-    mul-if2
-    element-copy-out-if2
-    add-bl
-    mul-bl
-    element-copy-out-bl
-    add-bl-2
-    mul-bl-2
-    element-write-bl
-    loop-less
-    loop-again
-    returns
-    returns-2)
+leave-inner-spec = tie.close (tie.spec
+    Inv-loop μ-loop whole-requires depth-of-requires loop-holds (λ c. omega arith) (λ c. omega arith) (λ c. omega arith) (λ c. omega arith)
+    (λ c. omega arith) (λ c. omega arith) (λ c. omega arith) (λ c. omega arith) (λ c. omega arith) (λ c. omega arith) (λ c. omega arith)
+    (λ c. omega arith) loop-again returns returns-2)

@@ -12,51 +12,13 @@ begun : (z : tie.After-after-place)
 begun z =
     record { long = z .before .before .whole .ensures; depth = z .before .depth-of .ensures; place = z .after-place .ensures }
 
-whole-requires : tie.Need-whole-requires
-whole-requires c κs = search needs
-
-depth-of-requires : tie.Need-depth-of-requires
-depth-of-requires c κs = search needs
-
-after-place-requires : tie.Need-after-place-requires
-after-place-requires c κs = search needs
-
 returns : tie.Need-returns
 returns c = none-open (begun (c .before)) endifRule (c .if1 .taken) refl
-
-sub-e : tie.Need-sub-e
-sub-e c = search needs
-
-cast-k : tie.Need-cast-k
-cast-k c = search needs
-
-mul-k : tie.Need-mul-k
-mul-k c = search needs
-
-add-n : tie.Need-add-n
-add-n c = search needs
-
-mul-n : tie.Need-mul-n
-mul-n c = search needs
-
-element-copy-out-n : tie.Need-element-copy-out-n
-element-copy-out-n c = search needs
 
 returns-2 : tie.Need-returns-2
 returns-2 c = closed-one _ (begun (c .before .before .before)) (c .before .before .if1 .left)
 
 pub close-if-spec : {M : Type 1} → statement M
-close-if-spec =
-    tie.close
-    (tie.spec
-    whole-requires
-    depth-of-requires
-    after-place-requires
-    returns
-    sub-e
-    cast-k
-    mul-k
-    add-n
-    mul-n
-    element-copy-out-n
-    returns-2)
+close-if-spec = tie.close (tie.spec
+    (λ c κs. search needs) (λ c κs. search needs) (λ c κs. search needs) returns (λ c. search needs) (λ c. search needs)
+    (λ c. search needs) (λ c. search needs) (λ c. search needs) (λ c. search needs) returns-2)

@@ -4,14 +4,8 @@ use borrow.Author.Needs.{needs}
 use Rattle.wave.proofs.rules.going.onward_by.Statement.{statement}
 use Rattle.wave.proofs.rules.going.onward_by.Tie as tie
 
-wrapping-add-u32-requires : tie.Need-wrapping-add-u32-requires
-wrapping-add-u32-requires c κs = search needs
-
-depth-of-requires : tie.Need-depth-of-requires
-depth-of-requires c κs = search needs
-
 returns : tie.Need-returns
 returns c xs = let s = c .before .before .args in onward-hot (s .h) (s .size) _ _ xs (c .before .wrapping-add-u32 .ensures) (c .depth-of .ensures)
 
 pub onward-by-spec : {M : Type 1} → statement M
-onward-by-spec = tie.close (tie.spec wrapping-add-u32-requires depth-of-requires returns)
+onward-by-spec = tie.close (tie.spec (λ c κs. search needs) (λ c κs. search needs) returns)

@@ -4,14 +4,8 @@ use borrow.Author.Needs.{needs}
 use Rattle.wave.proofs.rules.going.pass.Statement.{statement}
 use Rattle.wave.proofs.rules.going.pass.Tie as tie
 
-whole-requires : tie.Need-whole-requires
-whole-requires c κs = search needs
-
-onward-by-requires : tie.Need-onward-by-requires
-onward-by-requires c κs = search needs
-
 returns : tie.Need-returns
 returns c = let s = c .before .before .before .args in onward-does (s .h) 1 (s .bl .now) _ (c .before .whole .ensures) (c .onward-by .ensures)
 
 pub pass-spec : {M : Type 1} → statement M
-pass-spec = tie.close (tie.spec whole-requires onward-by-requires returns)
+pass-spec = tie.close (tie.spec (λ c κs. search needs) (λ c κs. search needs) returns)

@@ -4,12 +4,6 @@ use borrow.Author.Needs.{needs}
 use Rattle.wave.proofs.rules.guarding.executing.Statement.{statement}
 use Rattle.wave.proofs.rules.guarding.executing.Tie as tie
 
-holding-lanes-requires : tie.Need-holding-lanes-requires
-holding-lanes-requires c κs = search needs
-
-without-requires : tie.Need-without-requires
-without-requires c κs = search needs
-
 returns : tie.Need-returns
 returns c = c .without .ensures ∙ rw (c .before .if1 .taken, c .before .before .holding-lanes .ensures)
 
@@ -17,4 +11,4 @@ returns-2 : tie.Need-returns-2
 returns-2 c = rw (c .before .if1 .left, c .before .before .holding-lanes .ensures)
 
 pub executing-spec : {M : Type 1} → statement M
-executing-spec = tie.close (tie.spec holding-lanes-requires without-requires returns returns-2)
+executing-spec = tie.close (tie.spec (λ c κs. search needs) (λ c κs. search needs) returns returns-2)

@@ -28,33 +28,6 @@ depth-of-requires c κs = tt
 loop-holds : tie.Need-loop-holds Inv-loop μ-loop
 loop-holds c = (omega (arith, min-le-right (c .before .before .before .args .h .depth) nesting), c .before .whole .ensures, refl)
 
-sub-i : tie.Need-sub-i Inv-loop μ-loop
-sub-i c = omega arith
-
-cast-k : tie.Need-cast-k Inv-loop μ-loop
-cast-k c = omega arith
-
-mul-k : tie.Need-mul-k Inv-loop μ-loop
-mul-k c = omega arith
-
-add-k : tie.Need-add-k Inv-loop μ-loop
-add-k c = omega arith
-
-mul-bl : tie.Need-mul-bl Inv-loop μ-loop
-mul-bl c = omega arith
-
-element-copy-out-bl : tie.Need-element-copy-out-bl Inv-loop μ-loop
-element-copy-out-bl c = omega arith
-
-mul-bl-2 : tie.Need-mul-bl-2 Inv-loop μ-loop
-mul-bl-2 c = omega arith
-
-element-write-bl : tie.Need-element-write-bl Inv-loop μ-loop
-element-write-bl c = omega arith
-
-loop-less : tie.Need-loop-less Inv-loop μ-loop
-loop-less c = omega arith
-
 loop-again : tie.Need-loop-again Inv-loop μ-loop
 loop-again c = let l = c .before .before .loop in
     (omega arith, simp length-set (l .inv .1), walk-leave (c .before .before .before .before .before .before .args .t) (l .bl) (l .i) (omega arith) (omega arith) ∙ l .inv .2)
@@ -72,24 +45,7 @@ returns c = let l = c .before .before .before .before .loop in
     (c .before .without .ensures) (sym (walked-none (map (leave (s .t))) (l .bl) (l .i) refl (omega arith)) ∙ l .inv .2)
 
 pub halt-spec : {M : Type 1} → statement M
-halt-spec =
-    tie.close
-    (tie.spec
-    Inv-loop
-    μ-loop
-    whole-requires
-    depth-of-requires
-    loop-holds
-    sub-i
-    cast-k
-    mul-k
-    add-k
-    mul-bl
-    element-copy-out-bl
-    mul-bl-2
-    element-write-bl
-    loop-less
-    loop-again
-    after-place-requires
-    without-requires
-    returns)
+halt-spec = tie.close (tie.spec
+    Inv-loop μ-loop whole-requires depth-of-requires loop-holds (λ c. omega arith) (λ c. omega arith) (λ c. omega arith) (λ c. omega arith)
+    (λ c. omega arith) (λ c. omega arith) (λ c. omega arith) (λ c. omega arith) (λ c. omega arith) loop-again after-place-requires
+    without-requires returns)

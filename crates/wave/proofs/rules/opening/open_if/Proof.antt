@@ -17,41 +17,15 @@ begun z =
 abbrev block : tie.After-after-place → Block
 block z = let h = z .before .before .before .before .before .args .h in opening beforeElse (h .place) (h .active) (z .before .without .result)
 
-whole-requires : tie.Need-whole-requires
-whole-requires c κs = search needs
-
-depth-of-requires : tie.Need-depth-of-requires
-depth-of-requires c κs = search needs
-
-without-requires : tie.Need-without-requires
-without-requires c κs = search needs
-
-after-place-requires : tie.Need-after-place-requires
-after-place-requires c κs = search needs
-
 returns : tie.Need-returns
 returns c = let z = c .before .before in
     full (begun z) (ifRule (z .before .before .before .before .before .args .t)) _ (block z) (c .if1 .taken) (rw (z .before .without .ensures))
-
-put-block-requires : tie.Need-put-block-requires
-put-block-requires c κs = search needs
-
-add-n : tie.Need-add-n
-add-n c = search needs
 
 returns-2 : tie.Need-returns-2
 returns-2 c = let z = c .before .before .before .before in
     opened-one (begun z) (ifRule (z .before .before .before .before .before .args .t)) _ (block z) (c .before .before .if1 .left) (rw (z .before .without .ensures)) _ (c .put-block .ensures)
 
 pub open-if-spec : {M : Type 1} → statement M
-open-if-spec =
-    tie.close
-    (tie.spec
-    whole-requires
-    depth-of-requires
-    without-requires
-    after-place-requires
-    returns
-    put-block-requires
-    add-n
-    returns-2)
+open-if-spec = tie.close (tie.spec
+    (λ c κs. search needs) (λ c κs. search needs) (λ c κs. search needs) (λ c κs. search needs) returns (λ c κs. search needs)
+    (λ c. search needs) returns-2)

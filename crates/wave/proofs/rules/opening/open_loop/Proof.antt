@@ -18,37 +18,14 @@ begun z =
 abbrev block : tie.Start → Block
 block s = opening loopPart (s .args .h .place) (s .args .h .active) 0
 
-whole-requires : tie.Need-whole-requires
-whole-requires c κs = search needs
-
-depth-of-requires : tie.Need-depth-of-requires
-depth-of-requires c κs = search needs
-
-after-place-requires : tie.Need-after-place-requires
-after-place-requires c κs = search needs
-
 returns : tie.Need-returns
 returns c = let s = c .before .before .before .before .before in
     full (begun (c .before)) loopRule _ (block s) (c .if1 .taken) refl
-
-put-block-requires : tie.Need-put-block-requires
-put-block-requires c κs = search needs
-
-add-n : tie.Need-add-n
-add-n c = search needs
 
 returns-2 : tie.Need-returns-2
 returns-2 c = let s = c .before .before .before .before .before .before .before in
     opened-one (begun (c .before .before .before)) loopRule _ (block s) (c .before .before .if1 .left) refl _ (c .put-block .ensures)
 
 pub open-loop-spec : {M : Type 1} → statement M
-open-loop-spec =
-    tie.close
-    (tie.spec
-    whole-requires
-    depth-of-requires
-    after-place-requires
-    returns
-    put-block-requires
-    add-n
-    returns-2)
+open-loop-spec = tie.close (tie.spec
+    (λ c κs. search needs) (λ c κs. search needs) (λ c κs. search needs) returns (λ c κs. search needs) (λ c. search needs) returns-2)
