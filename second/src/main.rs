@@ -7,7 +7,7 @@ use second::cases::commands as cases;
 use second::commands;
 
 const HELP: &str = "\
-second pack TEXT FILE            packs a readable capture into a file
+second pack [--any] TEXT FILE    packs a readable capture into a file; --any: one that is refused, too
 second show FILE                 prints a capture file as readable text
 second replay FILE [OUT] [KEY]   replays a capture: a report, the end state, a fault's key
 second cases SEED COUNT          writes random cases; SEED is a number or new
@@ -33,7 +33,8 @@ fn main() -> ExitCode {
     let arguments: Vec<String> = std::env::args().skip(1).collect();
     let given: Vec<&str> = arguments.iter().map(String::as_str).collect();
     let done = match given[..] {
-        ["pack", text, file] => commands::pack(text, file),
+        ["pack", text, file] => commands::pack(text, file, false),
+        ["pack", "--any", text, file] => commands::pack(text, file, true),
         ["show", file] => commands::show(file),
         ["replay", file] => commands::replay(file, None, None),
         ["replay", file, out] => commands::replay(file, Some(out), None),

@@ -3,7 +3,8 @@
 use crate::blocks::DEEPEST;
 use crate::key;
 use crate::run::{Answer, Outcome};
-use crate::text;
+use crate::text::SETS;
+use crate::text::printing::{block_sets, sets};
 
 /// The lines of a report, each beginning with its word: outcome, steps, place, kind (one line for
 /// each), active, halted, p1, p2, p3, depth, block (one line for each, outermost first, at most 32)
@@ -19,11 +20,12 @@ pub fn report(kernel: u32, answer: &Answer) -> String {
         let found = (1..).zip(faults).filter(|(_, lanes)| *lanes != 0);
         lines.extend(found.map(|(kind, lanes)| format!("kind {kind} lanes {lanes:08X}")));
     }
-    lines.extend(text::lane_lines(state));
+    let sets = SETS.iter().zip(sets(state));
+    lines.extend(sets.map(|(name, lanes)| format!("{name} {lanes:08X}")));
     lines.push(format!("depth {}", state.blocks.len()));
     for b in state.blocks.iter().take(DEEPEST) {
-        let lanes = text::block_lanes(b);
-        lines.push(format!("block {} {} {lanes}", b.part, b.opener));
+        let lanes = block_sets(b).map(|lanes| format!("{lanes:08X}"));
+        lines.push(format!("block {} {} {}", b.part, b.opener, lanes.join(" ")));
     }
     if let Some(body) = body(kernel, answer) {
         let hex: String = body.iter().map(|byte| format!("{byte:02X}")).collect();

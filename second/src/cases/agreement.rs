@@ -3,8 +3,8 @@
 use super::Case;
 use super::answer::{Answer, answer};
 use super::reached::Reached;
-use crate::assembly;
 use crate::capture;
+use crate::numerals;
 use crate::text;
 
 /// Compares an answer with the numbers that another program's answers go on with, and passes them.
@@ -92,6 +92,6 @@ pub fn describe(case: &Case) -> String {
 
 /// Numbers as text.
 pub fn hex(words: &[u32]) -> String {
-    let text: Vec<String> = words.iter().map(|w| assembly::number_text(*w)).collect();
+    let text: Vec<String> = words.iter().map(|w| numerals::print(*w)).collect();
     text.join(" ")
 }
