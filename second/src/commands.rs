@@ -140,7 +140,7 @@ pub fn replay(path: &str, out: Option<&str>, key: Option<&str>) -> Done {
     let mut capture = capture_in(path)?;
     let answer = capture.run();
     let refused = matches!(answer.outcome, Outcome::Refused(_));
-    let report = report::report(capture.kernel, &answer);
+    let report = report::report(&capture, &answer);
     let body = report::body(capture.kernel, &answer);
     if let (Some(out), false) = (out, refused) {
         capture.state = Some(answer.state);

@@ -23,7 +23,7 @@ second against SEED COUNT PROGRAM [ARGUMENT..]
                                  hands random cases to a program and compares its answers
 second bench                     prints the time per step of two interpreters
 second bench files PROGRAM [ARGUMENT..]
-                                 and of a program that takes CAPTURE OUT, as second replay does
+                                 and of a program that takes CAPTURE OUT KEY, as second replay does
 second bench cases PROGRAM [ARGUMENT..]
                                  and of a program that answers cases, as second answers does
 second kernels FOLDER BUDGET     writes the captures of the timed kernels

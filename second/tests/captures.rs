@@ -49,11 +49,7 @@ fn each_sample_gives_its_report() {
         let mut capture = Capture::read(&file).expect("a capture");
         let answer = capture.run();
         let expected = fs::read_to_string(path.with_extension("report")).expect("the report");
-        assert_eq!(
-            report::report(capture.kernel, &answer),
-            expected,
-            "{path:?}"
-        );
+        assert_eq!(report::report(&capture, &answer), expected, "{path:?}");
     }
 }
 

@@ -35,7 +35,7 @@ fn replay_prints_the_report_and_writes_out_and_key() {
     assert_eq!(fs::read(&key).expect("the key").len(), 56);
     let again = second(&["replay", &out]);
     let again = String::from_utf8(again.stdout).expect("text");
-    assert!(again.starts_with("outcome fault\nsteps 0\nplace 7\n"));
+    assert!(again.starts_with("outcome fault\nsteps 0\nplace 7\ninstruction DIV r1, r1, r0\n"));
 }
 
 #[test]
