@@ -15,7 +15,7 @@ use crate::report;
 /// How a program takes a capture.
 #[derive(Clone, Copy, PartialEq, Eq)]
 enum Way {
-    /// PROGRAM CAPTURE OUT, as `second replay` does: the report comes on standard output.
+    /// PROGRAM CAPTURE OUT KEY, as `second replay` does: the report comes on standard output.
     Files,
     /// One case on standard input, as `second answers` does: its answer comes on standard output.
     Cases,

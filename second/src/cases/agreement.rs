@@ -64,6 +64,7 @@ pub fn name(case: &Case) -> &'static str {
         Case::Make { .. } => "make a day file",
         Case::File { .. } => "read a day file",
         Case::Listing { .. } => "list a day file",
+        Case::Text { .. } => "text of an instruction",
     }
 }
 
@@ -71,7 +72,9 @@ pub fn name(case: &Case) -> &'static str {
 pub fn describe(case: &Case) -> String {
     match case {
         Case::Read { words } => format!("words {}\n", hex(words)),
-        Case::Write { instruction, room } => format!("{instruction:?}, room {room}\n"),
+        Case::Write { instruction, room } | Case::Text { instruction, room } => {
+            format!("{instruction:?}, room {room}\n")
+        }
         Case::Run { capture, key_room } => {
             format!("{}\n# key room {key_room}\n", text::print(capture))
         }
