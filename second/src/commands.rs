@@ -94,10 +94,10 @@ pub fn pack(text_path: &str, path: &str, any: bool) -> Done {
     write_file(path, &text.capture.write())
 }
 
-/// Whether two paths name one file.
+/// Whether two paths name one file, by the same words or by what stands there.
 fn same_file(path: &str, other: &str) -> bool {
     let file = |path| fs::metadata(path).map(|found| (found.dev(), found.ino()));
-    matches!((file(path), file(other)), (Ok(first), Ok(second)) if first == second)
+    path == other || matches!((file(path), file(other)), (Ok(first), Ok(second)) if first == second)
 }
 
 /// A line for each line of the text that has doubtful numbers.
@@ -135,8 +135,17 @@ pub fn show(path: &str) -> Done {
 }
 
 /// Replays a capture and prints the report. OUT gets the end state as a capture, KEY a fault's body;
-/// a refused capture writes neither.
+/// a refused capture writes neither. Neither may be the capture, nor the other.
 pub fn replay(path: &str, out: Option<&str>, key: Option<&str>) -> Done {
+    let files = [Some(path), out, key];
+    for (index, target) in files.iter().enumerate() {
+        let mut before = files[..index].iter().flatten();
+        if let Some(target) = target.filter(|target| before.any(|other| same_file(other, target))) {
+            return Err(format!(
+                "{target}: expected three files for capture, OUT and KEY, found one of them twice"
+            ));
+        }
+    }
     let mut capture = capture_in(path)?;
     let answer = capture.run();
     let refused = matches!(answer.outcome, Outcome::Refused(_));

@@ -71,6 +71,29 @@ fn a_run_that_ends_writes_no_key() {
 }
 
 #[test]
+fn capture_out_and_key_are_three_files() {
+    let folder = folder("three");
+    let [capture, link, out] =
+        ["capture", "link", "out"].map(|name| folder.join(name).display().to_string());
+    fs::copy(sample("t14.cap"), &capture).expect("copied");
+    std::os::unix::fs::symlink(&capture, &link).expect("a link");
+    for files in [
+        [&capture, &out],
+        [&link, &out],
+        [&out, &capture],
+        [&out, &out],
+    ] {
+        let done = second(&["replay", &capture, files[0], files[1]]);
+        assert!(!done.status.success() && done.stdout.is_empty());
+        let said = String::from_utf8(done.stderr).expect("text");
+        assert!(said.ends_with("found one of them twice\n"), "{said}");
+        assert!(!Path::new(&out).exists());
+    }
+    let as_it_was = fs::read(sample("t14.cap")).expect("the sample");
+    assert_eq!(fs::read(&capture).expect("the capture"), as_it_was);
+}
+
+#[test]
 fn errors_are_one_line_and_leave_an_earlier_file() {
     let folder = folder("errors");
     let [bad, out] = ["bad", "out"].map(|name| folder.join(name).display().to_string());

@@ -2,6 +2,8 @@
 
 use second::assembly;
 use second::capture::Capture;
+use second::cases::random::Random;
+use second::cases::{Case, make};
 use second::numerals;
 use second::operations::Operation;
 use second::text::{self, refused};
@@ -174,6 +176,65 @@ fn memory_as_large_as_there_is_room_for_is_shown_and_read() {
     let shown = text::print(&large);
     assert!(shown.contains("    0x01000000 of 0\n"), "{shown}");
     assert_eq!(text::read(&shown).expect("a capture").capture, large);
+}
+
+/// The text between the first two lines of three backticks after this title.
+fn block_after(title: &str) -> String {
+    let path = concat!(env!("CARGO_MANIFEST_DIR"), "/README.md");
+    let readme = std::fs::read_to_string(path).expect("the README");
+    let (_, after) = readme.split_once(title).expect("the title");
+    let block = after.split("```").nth(1);
+    block.expect("a block").trim_start().to_string()
+}
+
+#[test]
+fn the_text_that_is_described_is_read() {
+    let read = text::read(&block_after("## A capture's text")).expect("a capture");
+    assert_eq!(
+        read.capture.code,
+        [0xF2000000, 0xF1010000, 0xFFFFFFFF, 0x3E000000]
+    );
+    assert_eq!(read.capture.registers[..6], [0, 5, 0, 16, 0, 0]);
+    assert_eq!(read.capture.registers.len(), 16);
+    assert_eq!(read.capture.device, [1, 2, 3, 4]);
+    assert_eq!(read.doubtful, []);
+}
+
+#[test]
+fn a_changed_text_is_read_or_said_so_with_its_line() {
+    let mut random = Random::new(21, 0);
+    let marks = b"0123456789abcdefxXrpASF#-+,[] \n\tlane of word block";
+    for number in 1..=800 {
+        let Case::Run { capture, .. } = make::case(21, number) else {
+            continue;
+        };
+        let mut text = text::print(&capture).into_bytes();
+        if text.len() > 10_000 {
+            continue;
+        }
+        for _ in 0..random.below(4) {
+            let at = random.below(text.len());
+            match random.below(3) {
+                0 => text[at] = random.pick(marks),
+                1 => drop(text.remove(at)),
+                _ => text.insert(at, random.pick(marks)),
+            }
+        }
+        let text = String::from_utf8(text).expect("text");
+        match text::read(&text) {
+            Err(error) => assert!(
+                error.starts_with("line ") && error.contains("expected "),
+                "{error}"
+            ),
+            Ok(read) => {
+                let refusal = read.capture.refusal();
+                let said = refusal.map(|refusal| refused::describe(&read, refusal));
+                assert!(said.is_none_or(|said| said.contains(": expected ")));
+                let again = text::read(&text::print(&read.capture)).expect("a capture");
+                assert_eq!(again.capture, read.capture);
+            }
+        }
+    }
 }
 
 #[test]
