@@ -9,7 +9,7 @@ It reads README.md, CONTRIBUTING.md and docs/*.md except the pages, and goes by 
 - `crate/edit` and `crate::module::function`; paths of the repository, where a word in capitals stands for any name;
 - in docs/PROMISES.md, the cells of a table by their column's title, for the crates that the section's title names;
 - in the documents on proofs, each single word, and in a statement each word with a capital inside it: it is something that the crates declare,
-  or one of OTHERS below.
+  or one of OTHERS below. The others also name files and words of a user's own: there only what begins as something of the project does is held.
 """
 import re
 import sys
@@ -17,7 +17,7 @@ import sys
 from lib import names
 from lib.stored import ROOT
 
-# The documents in which every single word between backticks has to name something.
+# The documents on proofs.
 STRICT = {'DEMANDS.md', 'PROMISES.md', 'ARCHITECTURE.md', 'DECISIONS.md', 'CONTRIBUTING.md'}
 # Words of the language, of its library and of tools.
 OTHERS = {
@@ -25,6 +25,8 @@ OTHERS = {
     'rw', 'cc', 'bitOr', 'bitAnd', 'min', 'crate', 'File.name',
 }
 FILE_NAME = re.compile(r"[A-Z]\w*\.[\w′-]+")
+PATH = re.compile(r'[\w.*-]+(/[\w.*-]+)*/?')
+ENDING = re.compile(r'\.(md|py|txt|rs|rt|antt|edit)$')
 WORD = re.compile(r"[A-Za-z_][\w′-]*")
 INNER_CAPITAL = re.compile(r"(?<![\w.′-])[a-z]+[A-Z][\w′-]*")
 
@@ -126,9 +128,9 @@ class Reader:
             return
         if span in self.crates:
             self.crate, self.files = span, []
-        elif re.fullmatch(r'[\w.*-]+(/[\w.*-]+)*/?', span) and ('/' in span or re.search(r'\.(md|py|txt|rs|rt|antt|edit)$', span)):
+        elif self.is_path(span):
             self.of_path(number, span)
-        elif FILE_NAME.fullmatch(first):
+        elif FILE_NAME.fullmatch(first) and self.is_file(first.split('.')[0]):
             self.name(number, *first.split('.'))
         elif re.fullmatch(r'\w+(::\w+)+', span):
             if not any(span in crate.functions or span in crate.modules for crate in self.crates.values()):
@@ -137,6 +139,17 @@ class Reader:
             self.bare(number, span)
         if ' ' in span and self.strict:
             self.statement(number, span)
+
+    def is_path(self, span):
+        """Whether this is a path, in a document for users one that begins in the repository."""
+        if not PATH.fullmatch(span) or '/' not in span and not ENDING.search(span):
+            return False
+        top = span.split('/')[0]
+        return self.strict or '/' in span and (top in self.crates or (ROOT / top).exists())
+
+    def is_file(self, name):
+        """Whether this is to be a file of specs/ or proofs/, in a document for users one that some crate has."""
+        return self.strict or self.crate or any(name in crate.files for crate in self.crates.values())
 
     def statement(self, number, span):
         """The words with a capital inside them are declared somewhere."""
@@ -216,7 +229,7 @@ def main():
     faults = [fault for path in documents() for fault in Reader(path, crates).read()]
     if faults:
         print('\n'.join(faults), file=sys.stderr)
-        sys.exit(f'documents: {len(faults)} names of the documents are not found')
+        sys.exit(f'documents: {len(faults)} names are not found (a word of something else goes to OTHERS in tests/documents.py)')
     print('documents: every name exists')
 
 

@@ -5,9 +5,9 @@ use second::capture::Capture;
 use second::cases::random::Random;
 use second::cases::{Case, make};
 use second::numerals;
-use second::operations::Operation;
+use second::operations::{Form, Operation};
 use second::text::{self, refused};
-use second::words::Instruction;
+use second::words::{self, Instruction};
 
 #[test]
 fn numbers_are_read() {
@@ -71,14 +71,6 @@ fn eight_digits_without_a_letter_are_doubtful() {
     }
 }
 
-/// An instruction with every field of its text as large as it can be.
-fn longest() -> Instruction {
-    let mut i = Instruction::plain(Operation::AtomicUmax);
-    (i.rd, i.rs1, i.rs2, i.scope) = (255, 255, 255, 3);
-    (i.predicate, i.negate) = (3, true);
-    i
-}
-
 #[test]
 fn each_form_has_its_text() {
     let lines = [
@@ -106,24 +98,71 @@ fn each_form_has_its_text() {
         let read = assembly::parse(line).expect(line);
         assert_eq!(assembly::print(&read), line);
     }
-    assert_eq!(assembly::print(&longest()).len(), 48);
+    assert_eq!(assembly::print(&largest(Operation::AtomicUmax)).len(), 48);
     assert_eq!(
         assembly::parse("LOAD r1,[r2+-4]"),
         assembly::parse("LOAD r1, [r2 + 0xFFFFFFFC]")
     );
 }
 
+/// The instruction of an operation whose fields are all as large as they can be.
+fn largest(operation: Operation) -> Instruction {
+    let mut i = Instruction::plain(operation);
+    if words::takes_predicate(operation) {
+        (i.predicate, i.negate) = (3, true);
+    }
+    match operation.form() {
+        Form::Control => (),
+        Form::TwoSources => (i.rd, i.rs1, i.rs2) = (255, 255, 255),
+        Form::Comparison => (i.rd, i.rs1, i.rs2) = (3, 255, 255),
+        Form::OneSource => (i.rd, i.rs1) = (255, 255),
+        Form::Special => (i.rd, i.rs1) = (255, 2),
+        Form::Immediate => (i.rd, i.number) = (255, !0),
+        Form::Memory => (i.rd, i.rs1, i.number) = (255, 255, !0),
+        Form::Atomic => (i.rd, i.rs1, i.rs2, i.scope) = (255, 255, 255, 3),
+        Form::CompareAndSwap => (i.rd, i.rs1, i.rs2, i.rs3, i.scope) = (255, 255, 255, 255, 3),
+    }
+    i
+}
+
+#[test]
+fn no_text_is_longer_than_48_bytes() {
+    let lengths = Operation::ALL.iter().map(|operation| {
+        let text = assembly::print(&largest(*operation));
+        assert_eq!(assembly::parse(&text), Ok(largest(*operation)));
+        text.len()
+    });
+    assert_eq!(lengths.max(), Some(48));
+}
+
+#[test]
+fn no_two_instructions_have_one_text() {
+    let mut random = Random::new(22, 0);
+    let mut texts = std::collections::HashMap::new();
+    for round in 0..4000 {
+        let operation = Operation::ALL[round % Operation::ALL.len()];
+        let i = make::numbered(&mut random, operation);
+        let text = assembly::print(&i);
+        assert!(text.len() <= 48, "{text}");
+        assert_eq!(assembly::parse(&text), Ok(i));
+        assert_eq!(*texts.entry(text).or_insert(i), i);
+    }
+}
+
 #[test]
 fn a_text_is_written_into_what_is_lent() {
     let mut output = [7; 60];
-    assert_eq!(assembly::write(&longest(), &mut output), Ok(48));
+    assert_eq!(
+        assembly::write(&largest(Operation::AtomicUmax), &mut output),
+        Ok(48)
+    );
     assert_eq!(
         &output[..48],
         b"ATOMIC_UMAX r255, [r255], r255 scope 3 on not p3"
     );
     assert_eq!(output[48..], [7; 12]);
     let mut short = [7; 47];
-    let refused = assembly::write(&longest(), &mut short).expect_err("13");
+    let refused = assembly::write(&largest(Operation::AtomicUmax), &mut short).expect_err("13");
     assert_eq!((refused.number, refused.place, short), (13, 0, [7; 47]));
     let mut none = Instruction::plain(Operation::MovSpecial);
     none.rs1 = 3;
