@@ -5,8 +5,8 @@ use lib.ListN.{length}
 use lib.Seq.{length-take-le}
 use Rattle.packing.specs.Words.{wordCount, wordsOf}
 use borrow.Author.Needs.{needs}
-use Rattle.replay_capture.proofs.replaying.keep_state.Statement.{statement}
-use Rattle.replay_capture.proofs.replaying.keep_state.Tie as tie
+use Rattle.replay_capture.proofs.keeping.keep_state.Statement.{statement}
+use Rattle.replay_capture.proofs.keeping.keep_state.Tie as tie
 
 array-share-prefix-words : tie.Need-array-share-prefix-words
 unfolding wordCount

@@ -2,8 +2,8 @@
 use mathlib.Core.Path.{sym}
 use lib.Seq.{length-take-le}
 use borrow.Author.Needs.{needs}
-use Rattle.replay_capture.proofs.replaying.keep_words.Statement.{statement}
-use Rattle.replay_capture.proofs.replaying.keep_words.Tie as tie
+use Rattle.replay_capture.proofs.keeping.keep_words.Statement.{statement}
+use Rattle.replay_capture.proofs.keeping.keep_words.Tie as tie
 
 slice-aggregate-save-as : tie.Need-slice-aggregate-save-as
 slice-aggregate-save-as c = sym (length-take-le _ _ (c .before .if1 .taken))
