@@ -1,0 +1,207 @@
+"""The proved programs, built from what is checked out.
+
+Beside a program stands its state: a digest of the sources it was built from, one of the program itself, and the toolchain. A program whose
+state is another is proved and built again by rt, which proves only what has changed.
+"""
+import contextlib
+import fcntl
+import hashlib
+import os
+import re
+import selectors
+import shutil
+import subprocess
+from pathlib import Path
+
+from desk import running, streams
+from desk.home import BIN, CRATES, CRATES_TXT, HOME
+from desk.status import Stopped, Trouble
+
+# The parts of a crate that a program is made of.
+PARTS = ('src', 'specs', 'proofs')
+
+# A check that finds nothing changed takes less than these seconds, and isn't told of.
+PATIENCE = 5
+
+
+def kit():
+    """The toolchain's folder; None where there is none."""
+    rt = shutil.which('rt')
+    if rt is None:
+        return None
+    return Path(os.environ.get('RATTLE_HOME') or Path(rt).resolve().parent.parent)
+
+
+def kit_name():
+    """The toolchain's line about itself; None where there is none."""
+    folder = kit()
+    try:
+        return folder and (folder / 'KIT-ID').read_text().strip()
+    except OSError:
+        return None
+
+
+def dependencies():
+    """From each crate of the project to the crates that it names."""
+    crates = {}
+    for line in CRATES_TXT.read_text().splitlines():
+        name, colon, rest = line.partition('#')[0].partition(':')
+        if colon:
+            crates[name.strip()] = rest.split()
+    return crates
+
+
+def plan(program):
+    """The crates that a program is made of, each behind those it needs, in the order in which rt proves them."""
+    crates, levels = dependencies(), {}
+
+    def level(name):
+        if name not in levels:
+            needs = [level(need) for need in crates[name] if need in crates]
+            levels[name] = 1 + max(needs, default=0)
+        return levels[name]
+    level(program)
+    return sorted(levels, key=levels.get)
+
+
+def sources(program):
+    """A digest of all that a program is made from."""
+    digest = hashlib.sha256(CRATES_TXT.read_bytes())
+    for crate in plan(program):
+        for part in PARTS:
+            for path in sorted((CRATES / crate / part).rglob('*')):
+                if path.is_file():
+                    digest.update(f'\0{path.relative_to(CRATES)}\0'.encode())
+                    digest.update(hashlib.sha256(path.read_bytes()).digest())
+    return digest.hexdigest()
+
+
+def state_now(program):
+    """The lines of a program's state, as it would be were it built from what is checked out."""
+    made = hashlib.sha256((BIN / program).read_bytes()).hexdigest()
+    return [f'sources {sources(program)}', f'program {made}', f'toolchain {kit_name()}']
+
+
+def state_file(program):
+    """Where a program's state stands."""
+    return BIN / f'{program}.state'
+
+
+def is_fresh(program):
+    """Whether a program is what is checked out, by the toolchain that is here, or by any where there is none."""
+    try:
+        stored = state_file(program).read_text().splitlines()
+        now = state_now(program)
+    except FileNotFoundError:
+        return False
+    return stored == now or (kit() is None and stored[:2] == now[:2])
+
+
+def ensure(program):
+    """Has a program be what is checked out: it is built where it isn't. Where that can't be, the user is told."""
+    try:
+        if is_fresh(program):
+            return
+        if kit() is None:
+            without_toolchain(program)
+            return
+        with lock():
+            if not is_fresh(program):
+                build(program)
+                state_file(program).write_text('\n'.join(state_now(program)) + '\n')
+    except OSError as error:
+        raise Trouble(f'{program} was not built: {error.filename}: {error.strerror}') from error
+
+
+def without_toolchain(program):
+    """What can be done where there is no toolchain: to say that the program is an old one, or that there is none."""
+    if not (BIN / program).exists():
+        raise Trouble(f'{program} is not built, and rt, which builds it, is not found')
+    streams.say(f'warning: {program} may not be what is checked out, and rt, which would build it, is not found')
+
+
+@contextlib.contextmanager
+def lock():
+    """Waits until no other run builds, and keeps others from it."""
+    with CRATES_TXT.open('rb') as file:
+        try:
+            fcntl.flock(file, fcntl.LOCK_EX | fcntl.LOCK_NB)
+        except BlockingIOError:
+            streams.say('waiting for another run that is building')
+            fcntl.flock(file, fcntl.LOCK_EX)
+        yield
+
+
+def build(program):
+    """Proves and builds a program. What the prover says goes to a log; a line counts the crates."""
+    BIN.mkdir(parents=True, exist_ok=True)
+    log = BIN.parent / f'{program}.log'
+    rt = running.start(['rt', 'check', program], cwd=HOME, stdin=subprocess.DEVNULL, stdout=subprocess.PIPE, stderr=subprocess.STDOUT)
+    try:
+        with log.open('wb') as text:
+            follow(rt, program, text)
+        status = rt.wait()
+    except Stopped:
+        streams.say(f'stopped while {program} was built; what is proved stays proved')
+        raise
+    finally:
+        running.end(rt)
+        rt.stdout.close()
+    if status != 0 or not (BIN / program).exists():
+        raise Trouble(f'{program} was not built: what the prover said is in {log}')
+
+
+def follow(rt, program, log):
+    """Copies what rt says to the log until it ends, and tells how far it is."""
+    counter = Counter(program)
+    rest = b''
+    with selectors.DefaultSelector() as ready:
+        ready.register(rt.stdout, selectors.EVENT_READ)
+        while True:
+            if not ready.select(PATIENCE):
+                counter.tell_slow(log.name)
+                continue
+            data = os.read(rt.stdout.fileno(), 1 << 16)
+            if not data:
+                break
+            log.write(data)
+            *lines, rest = (rest + data).split(b'\n')
+            for line in lines:
+                counter.read(line)
+    counter.clear()
+
+
+class Counter:
+    """The line that counts the crates: on a terminal it is written over, elsewhere there is one line where it takes long."""
+
+    def __init__(self, program):
+        self.program = program
+        self.crates = plan(program)
+        self.done = 0
+        self.on_terminal = streams.is_terminal(streams.ERROR)
+        self.told = False
+        self.show()
+
+    def line(self):
+        """How far the proving is."""
+        return f'proving {self.done + 1} of {len(self.crates)}: {self.crates[self.done]}'
+
+    def show(self):
+        if self.on_terminal and self.done < len(self.crates):
+            streams.show(f'\r\x1b[K{self.line()}')
+
+    def read(self, line):
+        """Counts the crate that a line of rt's tells of."""
+        if re.match(rb'rt: \w+ (proved|NOT PROVED)', line):
+            self.done += 1
+            self.show()
+
+    def tell_slow(self, log):
+        """Says once, where there is no terminal, that this takes long."""
+        if not (self.on_terminal or self.told):
+            streams.say(f'proving and building {self.program}, {len(self.crates)} crates, which takes minutes, once; log: {log}')
+            self.told = True
+
+    def clear(self):
+        if self.on_terminal:
+            streams.show('\r\x1b[K')
