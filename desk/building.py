@@ -105,9 +105,9 @@ def ensure(program):
         if kit() is None:
             without_toolchain(program)
             return
-        with lock():
+        with lock() as held:
             if not is_fresh(program):
-                build(program)
+                build(program, held)
                 state_file(program).write_text('\n'.join(state_now(program)) + '\n')
     except OSError as error:
         raise Trouble(f'{program} was not built: {error.filename}: {error.strerror}') from error
@@ -122,21 +122,25 @@ def without_toolchain(program):
 
 @contextlib.contextmanager
 def lock():
-    """Waits until no other run builds, and keeps others from it."""
+    """Waits until no other run builds, and keeps others from it; gives the file that holds the lock."""
     with CRATES_TXT.open('rb') as file:
         try:
             fcntl.flock(file, fcntl.LOCK_EX | fcntl.LOCK_NB)
         except BlockingIOError:
             streams.say('waiting for another run that is building')
             fcntl.flock(file, fcntl.LOCK_EX)
-        yield
+        yield file.fileno()
 
 
-def build(program):
-    """Proves and builds a program. What the prover says goes to a log; a line counts the crates."""
+def build(program, held):
+    """Proves and builds a program. What the prover says goes to a log; a line counts the crates.
+
+    rt has the lock's file too, so that it is held as long as rt runs, even where this process is killed.
+    """
     BIN.mkdir(parents=True, exist_ok=True)
     log = BIN.parent / f'{program}.log'
-    rt = running.start(['rt', 'check', program], cwd=HOME, stdin=subprocess.DEVNULL, stdout=subprocess.PIPE, stderr=subprocess.STDOUT)
+    rt = running.start(['rt', 'check', program], cwd=HOME, pass_fds=[held], stdin=subprocess.DEVNULL,
+                       stdout=subprocess.PIPE, stderr=subprocess.STDOUT)
     try:
         with log.open('wb') as text:
             follow(rt, program, text)

@@ -4,7 +4,7 @@ import tempfile
 
 from desk import files, options, programs, running, streams
 from desk.refusals import RULES
-from desk.status import ENDED, REFUSED, Trouble, WrongUse
+from desk.status import ENDED, Refused, Trouble, WrongUse
 
 # The listing program takes files up to this many bytes.
 MOST_LISTED = 65_536
@@ -25,7 +25,7 @@ def make(words):
         raise WrongUse('make: a day file is not text: give it a file with -o DAY')
     ran = answer('make_day', b''.join(key.data for key in keys))
     if not ran.out:
-        return say_refused(ran.error.decode('ascii', 'replace'), keys)
+        raise refusal(ran.error.decode('ascii', 'replace'), keys)
     hold_to_keys(ran.out, keys)
     if day:
         day.put(ran.out)
@@ -59,19 +59,16 @@ def answer(program, data):
     return ran
 
 
-def say_refused(said, keys):
-    """Says in words what make_day said of the keys, in which file and at which byte."""
+def refusal(said, keys):
+    """What make_day said of the keys, in words: which rule, and where it has a place, in which file and at which byte."""
     words = said.split()
     if len(words) != 4 or words[0] != 'refused':
-        raise Trouble(said.strip() or 'make_day gave no day file')
+        return Trouble(said.strip() or 'make_day gave no day file')
     number, place = int(words[1]), int(words[3])
-    rule = RULES[number]
     if number == 14:
         key, at = file_at(keys, place)
-        streams.say(f'refused {number}: {files.shown(key.name)}: no whole key begins at byte {at}: {rule}')
-    else:
-        streams.say(f'refused {number}: {rule}')
-    return REFUSED
+        return Refused(f'refused 14: {files.shown(key.name)}: no whole key begins at byte {at}')
+    return Refused(f'refused {number}: {RULES[number]}')
 
 
 def file_at(keys, place):
@@ -108,11 +105,9 @@ def list_day(words):
     if not listing.endswith(b'\n'):
         raise Trouble('list_day gave no whole listing')
     streams.put(listing)
-    first = listing.decode('ascii', 'replace').split()
-    if first[0] == 'refused':
-        streams.say(f'{files.shown(name)}: {RULES[int(first[1])]}: this is no day file')
-        return REFUSED
-    if first[:2] == ['too', 'long']:
-        streams.say(f'{files.shown(name)}: it has more than {MOST_LISTED:,} bytes, the most that list takes')
-        return REFUSED
+    first, second, *_ = listing.decode('ascii', 'replace').split()
+    if first == 'refused':
+        raise Refused(f'{files.shown(name)}: no day file: {RULES[int(second)]}')
+    if (first, second) == ('too', 'long'):
+        raise Refused(f'{files.shown(name)}: it has more than {MOST_LISTED:,} bytes, the most that list takes')
     return ENDED

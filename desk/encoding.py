@@ -45,7 +45,7 @@ def field_causes(word, second):
     fields = {'RD': word >> 16 & 255, 'RS1': word >> 8 & 255, 'bit 3': word >> 3 & 1}
     if form in REGISTER_FORMS and second is not None:
         fields.update({'RS2': second >> 24, 'RS3': second >> 16 & 255, 'RS4': second >> 8 & 255,
-                       'bits 7 to 2 of the second word': second >> 2 & 63, 'scope': second & 3})
+                       'field 7:2 of the second word': second >> 2 & 63, 'scope': second & 3})
     used = USED[form].split()
     causes = [f'{field} is {value}, not 0, and {name} does not use it' for field, value in fields.items() if value and field not in used]
     return causes + value_causes(form, name, fields) + predicate_causes(form, name, word & 3, word >> 2 & 1)

@@ -35,7 +35,8 @@ def replay(words):
         with tempfile.TemporaryDirectory(prefix='llinosfar-') as room:
             run = Run(room, asked.name, data, out)
             found = run.answer()
-            troubles = keep(found, room, out, key)
+            with running.undisturbed():
+                troubles = keep(found, room, out, key)
             text = in_text(found, asked, data, room)
     except OSError as error:
         raise Trouble(f'temporary files: {error.strerror or error}') from error
@@ -94,8 +95,9 @@ class Run:
     def keep_slice(self):
         """Puts the state so far into OUT. Where that fails, it is said, and the run goes on to its report."""
         try:
-            self.out.put(contents(path(self.room, 'out')))
-            self.kept = self.reached
+            with running.undisturbed():
+                self.out.put(contents(path(self.room, 'out')))
+                self.kept = self.reached
         except Trouble as trouble:
             self.progress.clear()
             streams.say(str(trouble))

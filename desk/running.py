@@ -1,4 +1,5 @@
 """Running another program to its end, and stopping it where a signal asks for that."""
+import contextlib
 import os
 import selectors
 import signal
@@ -25,6 +26,16 @@ def listen():
     for number in SIGNALS:
         if signal.getsignal(number) is not signal.SIG_IGN:
             signal.signal(number, stop)
+
+
+@contextlib.contextmanager
+def undisturbed():
+    """Has the signals that ask for a stop wait until what is done here is done."""
+    earlier = signal.pthread_sigmask(signal.SIG_BLOCK, SIGNALS)
+    try:
+        yield
+    finally:
+        signal.pthread_sigmask(signal.SIG_SETMASK, earlier)
 
 
 def end_by(number):

@@ -21,6 +21,11 @@ class WrongUse(Trouble):
     status = WRONG_USE
 
 
+class Refused(Trouble):
+    """What was handed in breaks a rule; the text says which, and where."""
+    status = REFUSED
+
+
 class Stopped(Exception):
     """A signal asked the run to stop; `signal` is its number."""
 

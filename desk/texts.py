@@ -1,9 +1,10 @@
 """llinosfar show and pack: captures as readable text and back, by the second program."""
 import os
+import re
 import tempfile
 
 from desk import capture, files, options, programs, running, streams
-from desk.status import ENDED, Trouble, WrongUse
+from desk.status import ENDED, Refused, Trouble, WrongUse
 
 
 def show(words):
@@ -55,7 +56,9 @@ def second(command, read, room, *more):
         raise Trouble(f'temporary files: {error.strerror}') from error
     ran = running.run(programs.second(command, given, *more))
     if ran.status != 0:
-        raise Trouble(in_names(ran, read, room).removeprefix('llinosfar: ').rstrip('\n') or f'second ended with status {ran.status}')
+        said = in_names(ran, read, room).removeprefix('llinosfar: ').rstrip('\n')
+        refused = re.search(r'\brefused \d+ at place \d+', said)
+        raise (Refused if refused else Trouble)(said or f'the second program ended with status {ran.status}')
     return ran
 
 
