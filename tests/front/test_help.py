@@ -1,4 +1,5 @@
 """Help, version, completion, the man page, and an installed copy."""
+import os
 import pathlib
 import re
 import shutil
@@ -40,7 +41,7 @@ class Help(unittest.TestCase):
         for name in ('README.md', 'docs/DESK.md'):
             text = squeezed((ROOT / name).read_text())
             for status in STATUSES:
-                self.assertIn(status, text, name)
+                self.assertTrue(status in text, f'{name}: {status}')
 
     def test_wrong_use(self):
         for words, line in (((), 'expected a command'), (('reply',), 'reply is no command'), (('help', 'reply'), 'help: expected a command'),
@@ -88,9 +89,9 @@ class ManPage(unittest.TestCase):
     @unittest.skipUnless(shutil.which('man'), 'there is no man here')
     def test_is_well_formed(self):
         ran = subprocess.run(['man', '--warnings', '-l', ROOT / 'docs' / 'llinosfar.1'], capture_output=True, text=True,
-                             env={'MANROFFSEQ': '', 'LC_ALL': 'C.UTF-8', 'PATH': '/usr/bin:/bin', 'MAN_KEEP_FORMATTING': '0'})
+                             env={**os.environ, 'LC_ALL': 'C.UTF-8'})
         self.assertEqual('', ran.stderr)
-        self.assertIn('llinosfar replay CAPTURE', squeezed(ran.stdout))
+        self.assertIn('llinosfar replay CAPTURE', squeezed(re.sub('.\b', '', ran.stdout)))
 
 
 class Installed(InFolder):
