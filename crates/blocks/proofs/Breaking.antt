@@ -18,7 +18,7 @@ use Rattle.blocks.specs.Scan.{nesting, Part, before, after, looping, Ope
 use Rattle.blocks.specs.Scan.{Next, over, go, stray, ended, react, step, carry, run, checkOf}
 use Rattle.blocks.specs.Nesting.{innermost}
 use Rattle.blocks.specs.Nesting.{nothing, Opened, outside, Broken, at-words, at-instruction, at-end}
-use Rattle.blocks.specs.Nesting.{Breaks, stray-else, stray-endif, stray-endloop, stray-jump, deep-if, deep-loop}
+use Rattle.blocks.specs.Nesting.{Misplaced, stray-else, stray-endif, stray-endloop, stray-jump, deep-if, deep-loop}
 use Rattle.blocks.proofs.Widths.{Fits, code-fits}
 use Rattle.blocks.proofs.Alone.{Carried, bad-if, has, has-seen}
 use Rattle.blocks.proofs.Passes.{Moves, step-in, step-moves, run-step, run-to, run-past}
@@ -27,7 +27,7 @@ use Rattle.blocks.proofs.Nested.{opened-room, Led, led-step, opened-run
 
 -- ---- an instruction that breaks a rule stops the pass
 
-breaks-stops : (o : List Open) (i : Item) (n at : ℕ) → Breaks o i n → react i at o ≡ over (Refused n at)
+breaks-stops : (o : List Open) (i : Item) (n at : ℕ) → Misplaced o i n → react i at o ≡ over (Refused n at)
 unfolding react innermost
 breaks-stops [] Item.Else n at (stray-else f) = refl
 breaks-stops (open-at before p ∷ o) Item.Else n at (stray-else f) = absurd (f refl)
@@ -68,10 +68,10 @@ module _ (words : List ℕ) (R : ℕ) where
 
 -- the pass is over at an instruction by a rule that it breaks: a refusal that is seen, or a rule of blocks
 abbrev Stopped : Item → List Open → ℕ → Next → Type 0
-Stopped i o at (over v) = (n : ℕ) × (v ≡ Refused n at) × ((i ≡ Item.Bad n) ⊎ Breaks o i n)
+Stopped i o at (over v) = (n : ℕ) × (v ≡ Refused n at) × ((i ≡ Item.Bad n) ⊎ Misplaced o i n)
 Stopped i o at (go a q) = Unit {0}
 
-stopped-opening : (i : Item) (part : Part) (o : List Open) (at : ℕ) → length o ≤ nesting → (length o ≡ nesting → Breaks o i 9)
+stopped-opening : (i : Item) (part : Part) (o : List Open) (at : ℕ) → length o ≤ nesting → (length o ≡ nesting → Misplaced o i 9)
     → Stopped i o at (cond (ltb (length o) nesting) (go (at + 1) (open-at part at ∷ o)) (over (Refused 9 at)))
 stopped-opening i part o at l f =
     dite (decLt (length o) nesting)
@@ -116,7 +116,7 @@ pub same-rule : (m n p q : ℕ) → Refused m p ≡ Refused n q → (m ≡ n) ×
 same-rule m n p q e = (cc, cc)
 
 -- what breaks a rule of blocks is no refusal
-breaks-carried : (o : List Open) (i : Item) (n : ℕ) → Breaks o i n → Carried i
+breaks-carried : (o : List Open) (i : Item) (n : ℕ) → Misplaced o i n → Carried i
 breaks-carried o Item.Else n (stray-else f) = tt
 breaks-carried o Item.Endif n (stray-endif f g) = tt
 breaks-carried o Item.Endloop n (stray-endloop f) = tt
@@ -137,7 +137,7 @@ module _ (words : List ℕ) (R n p : ℕ) where
   by-end room at (open-at part q ∷ o) e x r = broken-as 10 q (at-end (rw e at x)) r
 
   -- by the words alone, or by a rule of blocks
-  by-rule : (room at m : ℕ) (o : List Open) → Opened words R room o at → at < code .size → (code .item at ≡ Item.Bad m) ⊎ Breaks o (code .item at) m
+  by-rule : (room at m : ℕ) (o : List Open) → Opened words R room o at → at < code .size → (code .item at ≡ Item.Bad m) ⊎ Misplaced o (code .item at) m
       → Broken words R m at
   by-rule room at m o x h (inl e) = at-words x h (bad-if words R at h m .0 e)
   by-rule room at m o x h (inr b) = at-instruction x (has words R at h (code .item at) (breaks-carried o (code .item at) m b) refl) b

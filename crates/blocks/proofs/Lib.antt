@@ -1,5 +1,4 @@
 pub mod Items
-mod Fields
 pub mod Alone
 pub mod Widths
 pub mod Passes

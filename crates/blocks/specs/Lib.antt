@@ -1,7 +1,6 @@
 pub mod Item
 pub mod Code
 pub mod Scan
-pub mod Alone
 pub mod Nesting
 pub mod OpenAt
 pub mod Rules

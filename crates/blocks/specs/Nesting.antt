@@ -6,11 +6,12 @@ use mathlib.Core.List.{List, [], _∷_}
 use lib.ListN.{length}
 use Rattle.words.specs.declared.instr.Instr.{Instr}
 use Rattle.words.specs.Layout.{wordsOf}
-use Rattle.words.specs.Rules.{Stands}
+use Rattle.words.specs.Refusals.{Rule, numberOf}
+use Rattle.words.specs.Registers.{Past}
+use Rattle.words.specs.Rules.{Stands, Breaks}
 use Rattle.blocks.specs.declared.item.Item.{Item}
 use Rattle.blocks.specs.declared.rules.Inside.{Inside}
 use Rattle.blocks.specs.Item.{itemOf}
-use Rattle.blocks.specs.Alone.{Past, Alone}
 use Rattle.blocks.specs.Scan.{nesting, Part, before, after, looping, Open, open-at, in-loop}
 
 -- an instruction of the code, for R registers, and what it is to the blocks: its words stand at the place, and none of its registers is R or more
@@ -58,19 +59,25 @@ unfoldable pub innermost : List Open → Inside
 innermost [] = Inside.Nothing
 innermost (open-at part p ∷ o) = insideOf part
 
+-- The first of the rules 4 to 7 that the words at a place break by themselves, whatever blocks are open: one of reading an instruction; or an
+-- instruction stands there, and a register of it is R or more.
+pub data Alone (code : List ℕ) (R at : ℕ) : ℕ → Type 0 where
+  in-words : (rule : Rule) → Breaks code at rule → Alone code R at (numberOf rule)
+  register-past : (x : Instr) → Stands code at x → Past R x → Alone code R at 7
+
 -- An instruction breaks a rule of blocks, with these open: 8, where it is stray; 9, where no room is left.
-pub data Breaks (o : List Open) : Item → ℕ → Type 0 where
-  stray-else : (innermost o ≡ Inside.Before → ⊥) → Breaks o Item.Else 8
-  stray-endif : (innermost o ≡ Inside.Before → ⊥) → (innermost o ≡ Inside.After → ⊥) → Breaks o Item.Endif 8
-  stray-endloop : (innermost o ≡ Inside.Loop → ⊥) → Breaks o Item.Endloop 8
-  stray-jump : in-loop o ≡ false → Breaks o Item.Jump 8
-  deep-if : length o ≡ nesting → Breaks o Item.If 9
-  deep-loop : length o ≡ nesting → Breaks o Item.Loop 9
+pub data Misplaced (o : List Open) : Item → ℕ → Type 0 where
+  stray-else : (innermost o ≡ Inside.Before → ⊥) → Misplaced o Item.Else 8
+  stray-endif : (innermost o ≡ Inside.Before → ⊥) → (innermost o ≡ Inside.After → ⊥) → Misplaced o Item.Endif 8
+  stray-endloop : (innermost o ≡ Inside.Loop → ⊥) → Misplaced o Item.Endloop 8
+  stray-jump : in-loop o ≡ false → Misplaced o Item.Jump 8
+  deep-if : length o ≡ nesting → Misplaced o Item.If 9
+  deep-loop : length o ≡ nesting → Misplaced o Item.Loop 9
 
 -- The first rule that the code breaks, for R registers, and its place: that of an instruction, with nothing broken before it, which breaks a
 -- rule by its words alone, or a rule of blocks; or a block open at the end, the place of the innermost opener.
 pub data Broken (code : List ℕ) (R : ℕ) : ℕ → ℕ → Type 0 where
   at-words : {room number at : ℕ} {o : List Open} → Opened code R room o at → at < length code → Alone code R at number → Broken code R number at
-  at-instruction : {room number at : ℕ} {o : List Open} {item : Item} → Opened code R room o at → Has code R at item → Breaks o item number
+  at-instruction : {room number at : ℕ} {o : List Open} {item : Item} → Opened code R room o at → Has code R at item → Misplaced o item number
       → Broken code R number at
   at-end : {room p : ℕ} {part : Part} {o : List Open} → Opened code R room (open-at part p ∷ o) (length code) → Broken code R 10 p

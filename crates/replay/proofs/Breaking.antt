@@ -28,12 +28,12 @@ use Rattle.wave.proofs.Fitting.{fits-test}
 use Rattle.wave.proofs.Opens.{state-fits-if}
 use Rattle.replay.specs.declared.settings.Settings.{Settings}
 use Rattle.replay.specs.declared.answers.Outcome.the-variants.{Refused}
-use Rattle.replay.specs.Replay.{mostWords, settingsRight, thenTest, unless, boundsTest, launchTest, resumeTest, launchOf, resumeOf, goOnOf}
+use Rattle.replay.specs.Replay.{mostWords, settingsRight, thenTest, unless, boundsTest, launchTest, resumeTest, launchOf, resumeOf}
 use Rattle.replay.specs.Refusals.{Bounded, BoundsBreak, setting, code-length, buffer-length}
 use Rattle.replay.specs.Refusals.{LaunchBreaks, in-bounds, in-code, ResumeBreaks, in-launch, in-state}
 use Rattle.replay.proofs.Allowing.{allowed-right, right-allowed, allowed-narrow}
 use Rattle.replay.proofs.Returns.{then-first, then-second, unless-true}
-use Rattle.replay.proofs.Refusing.{launch-refused-if, resume-refused-if, go-on-refused-if}
+use Rattle.replay.proofs.Refusing.{launch-refused-if, resume-refused-if}
 
 module _ (s : Settings) (code regs : List ℕ) where
   -- ---- 1 to 3
@@ -72,13 +72,6 @@ module _ (s : Settings) (code regs : List ℕ) where
     bounds-passed (settingsRight s) (leb (length code) mostWords) (eqb (length regs) (s .width * s .registers)) refl refl refl,
     λ b. rw (allowed-right s (b .allowed), le-leb _ _ (b .short), eq-eqb _ _ (b .buffer)) refl,
   )
-
-  -- GOING ON WITHOUT CHECKS is refused exactly by the first of the rules 1 to 3 that it breaks
-  pub go-on-refused : (state : State) (device local : List ℕ) (n p : ℕ)
-      → (goOnOf s state code regs device local .outcome ≡ Refused n p) ↔ BoundsBreak s code regs n p
-  go-on-refused state device local n p =
-      let t = go-on-refused-if n p s code regs device local state in
-      (λ e. bounds-if n p .0 (t .0 e), λ b. t .1 (bounds-if n p .1 b))
 
   -- ---- then 4 to 10
 

@@ -13,7 +13,7 @@ use Rattle.replay.specs.Replay.{Answered, answered}
 abbrev back : Answered → Replayed
 back x = record { outcome = x .outcome; steps = x .steps; state = x .state }
 
--- for launch, resume and go_on alike: x is what the definition says
+-- for launch and resume alike: x is what the definition says
 pub one-answer :
     (x : Answered) (r q : Replayed) (regs regs′ device device′ local local′ : List ℕ) → answered r regs device local ≡ x →
     answered q regs′ device′ local′ ≡ x → (r ≡ q) × (regs ≡ regs′) × (device ≡ device′) × (local ≡ local′)

@@ -1,5 +1,4 @@
 -- A call is refused exactly where its tests refuse, with their number and place: a run answers no refusal of its own, by induction along it.
--- And going on without checks is a resume, where the tests of a resume pass.
 use mathlib.Core.Path.{_≡_, refl, sym, ap, _∙_}
 use mathlib.Core.Logic.{_↔_}
 use mathlib.Core.List.{List}
@@ -30,7 +29,6 @@ use Rattle.replay.specs.Replay.{
   launchOf,
   stateMachine,
   resumeOf,
-  goOnOf,
 }
 use Rattle.replay.proofs.Runs.{run-induction}
 use Rattle.replay.proofs.Returns.{then-first, resumable, resumed}
@@ -81,12 +79,6 @@ module _ (number place : ℕ) where
     resume-refused-if state =
         by-test (resumeTest s state code regs) _ _ _ _ (run-unrefused s code (s .budget) (stateMachine state regs device local))
 
-    pub go-on-refused-if : (state : State)
-        → (goOnOf s state code regs device local .outcome ≡ Refused number place) ↔ (boundsTest s code regs ≡ Checked.Refused number place)
-    unfolding goOnOf
-    go-on-refused-if state =
-        by-test (boundsTest s code regs) _ _ _ _ (run-unrefused s code (s .budget) (stateMachine state regs device local))
-
   -- THEOREM: a call that is refused reports zero steps, returns the state handed in and changes nothing lent; a launch returns place 0, empty
   -- sets and no block
   module _ (s : Settings) (code regs device local : List ℕ) where
@@ -102,12 +94,6 @@ module _ (number place : ℕ) where
     resume-refused-keeps state =
         by-test-keeps (resumeTest s state code regs) _ _ _ _ (run-unrefused s code (s .budget) (stateMachine state regs device local))
 
-    pub go-on-refused-keeps : (state : State) → goOnOf s state code regs device local .outcome ≡ Refused number place
-        → goOnOf s state code regs device local ≡ refusal number place state regs (memories device local)
-    unfolding goOnOf
-    go-on-refused-keeps state =
-        by-test-keeps (boundsTest s code regs) _ _ _ _ (run-unrefused s code (s .budget) (stateMachine state regs device local))
-
 -- what a refused launch returns, number by number
 pub not-launched : notLaunched ≡ record {
   hot = record { place = 0; active = 0; halted = 0; p1 = 0; p2 = 0; p3 = 0; depth = 0 };
@@ -115,16 +101,3 @@ pub not-launched : notLaunched ≡ record {
 }
 unfolding first
 not-launched = refl
-
-gone-on : (s : Settings) (state : State) (code regs device local : List ℕ) → boundsTest s code regs ≡ Checked.Fine
-    → goOnOf s state code regs device local ≡ runFrom s code (stateMachine state regs device local)
-unfolding goOnOf
-gone-on s state code regs device local e = rw e
-
--- THEOREM: going on without checks is a resume, where the tests of a resume pass
-pub go-on-resumes : (s : Settings) (state : State) (code regs device local : List ℕ) → resumeTest s state code regs ≡ Checked.Fine
-    → goOnOf s state code regs device local ≡ resumeOf s state code regs device local
-go-on-resumes s state code regs device local e =
-    let tests = resumable s state code regs e .launches in
-    gone-on s state code regs device local (then-first (boundsTest s code regs) (checkOf (codeOf code (s .registers))) tests)
-    ∙ sym (resumed s code regs device local state e)

@@ -21,7 +21,7 @@ use Rattle.blocks.specs.Code.{codeOf}
 use Rattle.blocks.specs.Item.{itemOf}
 use Rattle.blocks.specs.OpenAt.{openAt}
 use Rattle.blocks.specs.Nesting.{Nested}
-use Rattle.blocks.proofs.Alone.{past-if}
+use Rattle.words.proofs.PastRegisters.{past-if}
 use Rattle.wave.specs.declared.state.State.{State}
 use Rattle.wave.specs.Layout.{opened}
 use Rattle.wave.specs.Opens.{StateFits}

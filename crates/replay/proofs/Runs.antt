@@ -1,10 +1,11 @@
 -- A run at each kind of machine, and the induction along it.
-use Prim.Native.Nat.{ℕ, zero, suc, _+_}
+use Prim.Native.Nat.{ℕ, zero, suc, _+_, _≤_}
 use mathlib.Core.Path.{_≡_, ap, sym, _∙_, subst}
 use mathlib.Core.Bool.{true, false}
 use mathlib.Core.Logic.{⊎-elim}
 use mathlib.Core.List.{List}
 use native.Mathlib.Nat.{zero-add, add-assoc}
+use native.Mathlib.Omega.{arith}
 use Rattle.ground.proofs.Tests.{true-or-false}
 use Rattle.compute.specs.Faulting.{clear}
 use Rattle.words.specs.declared.instr.Instr.{Instr}
@@ -83,3 +84,9 @@ module _ (s : Settings) (code : List ℕ) (P : ℕ → Machine → Ran → Type 
       (λ c. subst (P (suc b) m) (sym (at-fault s code b m e c)) (faulted b m e c))
       (true-or-false (clear (stepAt s code m .faults))))
       (true-or-false (endedOf s code m))
+
+-- a run makes no more steps than its budget
+pub steps-most : (s : Settings) (code : List ℕ) (b : ℕ) (m : Machine) → runOf s code b m .steps ≤ b
+steps-most s code =
+    run-induction s code (λ b m r. r .steps ≤ b) (λ b m e. omega arith) (λ m e. omega arith) (λ b m e c. omega arith)
+    (λ b m r e c h. omega (arith, h))

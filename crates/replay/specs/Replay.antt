@@ -128,8 +128,3 @@ stateMachine state regs device local = machineOf (state .hot) (state .blocks) re
 unfoldable pub resumeOf : Settings → State → List ℕ → List ℕ → List ℕ → List ℕ → Answered
 resumeOf s state code regs device local =
     byTest (resumeTest s state code regs) (λ (u : Unit {0}). runFrom s code (stateMachine state regs device local)) state regs (memories device local)
-
--- the same for code and a state that have passed the checks before: only 1 to 3 are tested
-unfoldable pub goOnOf : Settings → State → List ℕ → List ℕ → List ℕ → List ℕ → Answered
-goOnOf s state code regs device local =
-    byTest (boundsTest s code regs) (λ (u : Unit {0}). runFrom s code (stateMachine state regs device local)) state regs (memories device local)

@@ -16,7 +16,7 @@ use Rattle.words.specs.Reading.{readAt}
 use Rattle.words.specs.Rules.{Stands}
 use Rattle.words.specs.Fetching.{instrAt}
 use Rattle.blocks.specs.Scan.{nesting}
-use Rattle.blocks.specs.Alone.{Past}
+use Rattle.words.specs.Registers.{Past}
 use Rattle.wave.specs.Rules.{onBy}
 use Rattle.wave.specs.Ready.{Ready}
 use Rattle.compute.specs.Operands.{Lent, operandsOf}

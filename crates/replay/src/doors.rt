@@ -1,10 +1,9 @@
-// The ways into a replay: a launch, going on from a state, and going on with what has passed the checks before.
+// The ways into a replay: a launch, and going on from a state.
 use crate::answers::Outcome;
 use crate::answers::Replayed;
 use crate::filling::fill_with;
 use crate::run::go;
 use crate::settings::Settings;
-use crate::tests::test_bounds;
 use crate::tests::test_launch;
 use crate::tests::test_resume;
 use blocks::structure::Checked;
@@ -13,7 +12,7 @@ use wave::launch::not_launched;
 use wave::state::State;
 use wave::state::tidy;
 ghost use mathlib.Core.Path.{_≡_};
-ghost use Rattle.replay.specs.Replay.{refusedAs, answered, stateMachine, runFrom, launchOf, resumeOf, goOnOf};
+ghost use Rattle.replay.specs.Replay.{refusedAs, answered, stateMachine, runFrom, launchOf, resumeOf};
 
 // What local memory holds when a launched run starts.
 pub const FILL: u32 = 0;
@@ -103,27 +102,6 @@ pub fn resume(
         ≡ resumeOf settings state (now (code .entry)) (now (regs .entry)) (now (device .entry)) (now (local .entry)) ⌝ }
 {
     let test = test_resume(settings, state, code, regs);
-    match test {
-        Checked::Refused(number, place) => refused(number, place, state),
-        Checked::Fine => run_from(settings, state, code, regs, device, local),
-    }
-}
-
-// The same with no test of code and state, for a caller that has had them checked. Code that is no instruction does nothing, and refusals
-// 1 to 3 are tested all the same.
-pub fn go_on(
-    settings: Settings,
-    state: State,
-    code: &[u32],
-    regs: &mut [u32],
-    device: &mut [u32],
-    local: &mut [u32],
-) -> Replayed
-    ensures { λ r. ⌜
-        answered r (now (regs .exit)) (now (device .exit)) (now (local .exit))
-        ≡ goOnOf settings state (now (code .entry)) (now (regs .entry)) (now (device .entry)) (now (local .entry)) ⌝ }
-{
-    let test = test_bounds(settings, code, regs);
     match test {
         Checked::Refused(number, place) => refused(number, place, state),
         Checked::Fine => run_from(settings, state, code, regs, device, local),

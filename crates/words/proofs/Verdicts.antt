@@ -1,6 +1,6 @@
 -- What reading and writing answer, by the cases of their tests: each answer beside the facts that it was given for.
-use mathlib.Core.Path.{_≡_, refl, _∙_}
-use mathlib.Core.Bool.{Bool, true, false, cond, _&&_}
+use mathlib.Core.Path.{_≡_, refl, sym, _∙_}
+use mathlib.Core.Bool.{Bool, true, false, cond}
 use mathlib.Core.List.{List, _++_}
 use mathlib.Core.Logic.{inl, inr}
 use Prim.Native.Nat.{ℕ, _≤_, _<_, _+_, _-_}
@@ -8,6 +8,8 @@ use native.Mathlib.Omega.{arith}
 use lib.Dec.{ltb, leb}
 use lib.ListN.{length, getD, drop}
 use borrow.Author.Tests.{leb-true, leb-false, ltb-true, ltb-false}
+use Rattle.ground.proofs.Bools.{never}
+use Rattle.ground.proofs.Tests.{false-of}
 use Rattle.words.specs.declared.instr.Op.{Op}
 use Rattle.words.specs.declared.instr.Instr.{Instr}
 use Rattle.words.specs.declared.table.FoundOp.{FoundOp}
@@ -15,17 +17,17 @@ use Rattle.words.specs.declared.forms.Second.{Second}
 use Rattle.words.specs.declared.reading.ReadAnswer.{ReadAnswer}
 use Rattle.words.specs.declared.writing.WriteAnswer.{WriteAnswer}
 use Rattle.words.specs.Table.{opOf}
-use Rattle.words.specs.Forms.{limitsOf, size, fits, valid}
-use Rattle.words.specs.Layout.{instrIn, spareZero, wordsOf, opcodeIn, modifierIn}
+use Rattle.words.specs.Forms.{limitsOf, size, valid}
+use Rattle.words.specs.Layout.{instrIn, wordsOf, opcodeIn, modifierIn}
 use Rattle.words.specs.Refusals.{Rule}
-use Rattle.words.specs.Rules.{Stands, Names, Breaks}
+use Rattle.words.specs.Rules.{Names, Allowed, Breaks}
 use Rattle.words.specs.Reading.{refused, readAt}
 use Rattle.words.specs.Writing.{written, unwritten, writeOf}
 use Rattle.words.proofs.Lookup.{op-opcode, op-modifier}
 use Rattle.words.proofs.Rows.{table}
 use Rattle.words.proofs.Sizes.{size-positive}
 use Rattle.words.proofs.ReadSteps.{past, missing, short, whole}
-use Rattle.words.proofs.Standing.{stood, standing}
+use Rattle.words.proofs.FieldTests.{right, allowed, kept}
 
 -- READING, at a place; w is the word there
 module _ (ws : List ℕ) (at : ℕ) where
@@ -60,22 +62,13 @@ module _ (ws : List ℕ) (at : ℕ) where
     abbrev v : ℕ
     v = getD ws (at + 1) 0
 
-    abbrev right : Bool
-    right = spareZero s w v && fits (limitsOf o) (instrIn s o w v)
-
-    answer : readAt ws at ≡ cond right (ReadAnswer.Read (instrIn s o w v) (size o)) (refused Rule.field at)
+    answer : readAt ws at ≡ cond (right (limitsOf o) o w v) (ReadAnswer.Read (instrIn s o w v) (size o)) (refused Rule.field at)
     answer =
         let here : at < length ws = omega (arith, size-positive s) in
         whole ws at here o (found o h) (limitsOf o) v refl refl (omega arith)
 
-    pub wrong-field : ((i : Instr) → Stands ws at i → ⊥) → readAt ws at ≡ refused Rule.field at
-    wrong-field none = answer ∙ by right answer
-      where
-        by :
-            (b : Bool) → readAt ws at ≡ cond b (ReadAnswer.Read (instrIn s o w v) (size o)) (refused Rule.field at) →
-            cond b (ReadAnswer.Read (instrIn s o w v) (size o)) (refused Rule.field at) ≡ refused Rule.field at
-        by true e = absurd (none (instrIn s o w v) (stood ws at (instrIn s o w v) (size o) e .0))
-        by false e = refl
+    pub wrong-field : (Allowed (limitsOf o) w v → ⊥) → readAt ws at ≡ refused Rule.field at
+    wrong-field f = answer ∙ rw (false-of (right (limitsOf o) o w v) (λ e. f (allowed (limitsOf o) o w v e))) refl
 
 -- every list and place has one of these
 pub data Verdict (ws : List ℕ) (at : ℕ) : Type 0 where
@@ -85,21 +78,16 @@ pub data Verdict (ws : List ℕ) (at : ℕ) : Type 0 where
 pub verdict : (ws : List ℕ) (at : ℕ) → Verdict ws at
 verdict ws at = first (leb (length ws) at) refl
   where
-    -- nothing stands where the answer is a refusal
-    unread : readAt ws at ≡ refused Rule.field at → (i : Instr) → Stands ws at i → ⊥
-    unread e i h =
-        let f : readAt ws at ≡ ReadAnswer.Read i (length (wordsOf i)) = standing ws at i h in
-        let z : _≡_ {A = ℕ} 0 1 = cc in absurd (omega arith)
-
     third : (o : Op) → Names ws at o → at + size o ≤ length ws → Verdict ws at
-    third o h room = by (right ws at o h room) (answer ws at o h room)
+    third o h room = by (right (limitsOf o) o (getD ws at 0) (getD ws (at + 1) 0)) refl
       where
-        by :
-            (b : Bool) →
-            readAt ws at ≡ cond b (ReadAnswer.Read (instrIn (limitsOf o .second) o (getD ws at 0) (getD ws (at + 1) 0)) (size o)) (refused Rule.field at) →
-            Verdict ws at
-        by true e = read _ _ e
-        by false e = broken Rule.field (o, h, room, unread e) e
+        by : (b : Bool) → right (limitsOf o) o (getD ws at 0) (getD ws (at + 1) 0) ≡ b → Verdict ws at
+        by true e =
+            read (instrIn (limitsOf o .second) o (getD ws at 0) (getD ws (at + 1) 0)) (size o) (answer ws at o h room ∙ rw e refl)
+        by false e =
+            let f : Allowed (limitsOf o) (getD ws at 0) (getD ws (at + 1) 0) → ⊥ =
+            λ a. never (sym e ∙ kept (limitsOf o) o (getD ws at 0) (getD ws (at + 1) 0) a) in
+            broken Rule.field (o, h, room, f) (wrong-field ws at o h room f)
 
     second : at < length ws → (o : Op) → Names ws at o → (b : Bool) → ltb (length ws) (at + size o) ≡ b → Verdict ws at
     second here o h true e =

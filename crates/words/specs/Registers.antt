@@ -1,6 +1,7 @@
--- Which fields of an instruction are registers, and refusal 7's test of them.
+-- Which fields of an instruction are registers; refusal 7, and its test.
+use mathlib.Core.Path.{_≡_}
 use mathlib.Core.Bool.{Bool, true, false, not, _&&_, _||_}
-use Prim.Native.Nat.{ℕ}
+use Prim.Native.Nat.{ℕ, _≤_}
 use lib.Dec.{ltb}
 use Rattle.words.specs.declared.instr.Op.{Op}
 use Rattle.words.specs.declared.instr.Instr.{Instr}
@@ -22,6 +23,13 @@ registersOf Op.Number = registers true false false false
 registersOf (Op.Atomic o) = registers true true true false
 registersOf Op.Cas = registers true true true true
 registersOf (Op.Control o) = registers false false false false
+
+-- a field of an instruction that is a register is R or more
+pub data Past (R : ℕ) (x : Instr) : Type 0 where
+  rd-past : registersOf (x .op) .rd ≡ true → R ≤ x .rd → Past R x
+  rs1-past : registersOf (x .op) .rs1 ≡ true → R ≤ x .rs1 → Past R x
+  rs2-past : registersOf (x .op) .rs2 ≡ true → R ≤ x .rs2 → Past R x
+  rs3-past : registersOf (x .op) .rs3 ≡ true → R ≤ x .rs3 → Past R x
 
 -- a field that is a register is below R
 abbrev pub below : ℕ → Bool → ℕ → Bool

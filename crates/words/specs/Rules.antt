@@ -1,4 +1,5 @@
--- Reading said of the words alone: when an instruction stands at a place, and which rule is the first that is broken there.
+-- Reading said of the words alone: when an instruction stands at a place, what the fields of an operation's words may have, and which rule is
+-- the first that is broken there. Page 01's table of refusals, 4 to 6, with no test.
 use mathlib.Core.Path.{_≡_}
 use mathlib.Core.Bool.{true}
 use mathlib.Core.List.{List}
@@ -7,9 +8,12 @@ use Prim.Native.Nat.{ℕ, _≤_, _<_, _+_}
 use lib.ListN.{length, getD, take, drop}
 use Rattle.words.specs.declared.instr.Op.{Op}
 use Rattle.words.specs.declared.instr.Instr.{Instr}
+use Rattle.words.specs.declared.forms.Need.{Need}
+use Rattle.words.specs.declared.forms.Second.{Second}
+use Rattle.words.specs.declared.forms.Limits.{Limits}
 use Rattle.words.specs.Table.{opcodeOf, modifierOf}
-use Rattle.words.specs.Forms.{size, valid}
-use Rattle.words.specs.Layout.{wordsOf, opcodeIn, modifierIn}
+use Rattle.words.specs.Forms.{limitsOf, size, valid}
+use Rattle.words.specs.Layout.{wordsOf, opcodeIn, modifierIn, rdIn, rs1In, bit3In, negateIn, predIn, rs2In, rs3In, rs4In, spareIn, scopeIn}
 use Rattle.words.specs.Refusals.{Rule}
 
 -- a valid instruction's words stand at a place
@@ -20,14 +24,40 @@ Stands ws at i = (valid i ≡ true) × (take (length (wordsOf i)) (drop at ws) �
 abbrev pub Names : List ℕ → ℕ → Op → Type 0
 Names ws at o = (opcodeIn (getD ws at 0) ≡ opcodeOf o) × (modifierIn (getD ws at 0) ≡ modifierOf o)
 
+-- IF needs predicate 1 to 3; ELSE, ENDIF, LOOP, ENDLOOP, BARRIER and NOP need predicate 0
+abbrev pub Needed : Need → ℕ → Type 0
+Needed Need.Any p = Unit {0}
+Needed Need.NotZero p = p ≡ 0 → ⊥
+Needed Need.Zero p = p ≡ 0
+
+-- the fields of a register-form word 1; RS4, which no operation uses, and 7:2 are zero
+abbrev pub SecondAllowed : Second → ℕ → Type 0
+SecondAllowed Second.Nothing v = Unit {0}
+SecondAllowed Second.Number v = Unit {0}
+SecondAllowed (Second.Registers rs2 rs3 scope) v =
+    (rs2In v ≤ rs2) × (rs3In v ≤ rs3) × (rs4In v ≡ 0) × (spareIn v ≡ 0) × (scopeIn v ≤ scope)
+
+-- what the words w and v of an operation may have in their fields; a limit is 0 for a field that the operation doesn't use
+pub record Allowed (l : Limits) (w v : ℕ) : Type 0 where
+  pub bit3 : bit3In w ≡ 0
+  -- predicate 0 with negate 1 isn't allowed
+  pub form : predIn w ≡ 0 → negateIn w ≡ 1 → ⊥
+  pub predicate : Needed (l .need) (predIn w)
+  -- RD, which for a comparison is 1 to 3
+  pub rd : (l .least ≤ rdIn w) × (rdIn w ≤ l .rd)
+  -- RS1, which for MOV_SPECIAL is the special number, at most 2
+  pub rs1 : rs1In w ≤ l .rs1
+  pub second : SecondAllowed (l .second) v
+
 -- the rule is the first that the words at a place break
 abbrev pub Breaks : List ℕ → ℕ → Rule → Type 0
 -- no word at all; or the word names an operation that has more words than there are
 Breaks ws at Rule.second = (length ws ≤ at) ⊎ ((o : Op) × (at < length ws) × Names ws at o × (length ws < at + size o))
 -- a word that names no operation
 Breaks ws at Rule.carried = (at < length ws) × ((o : Op) → Names ws at o → ⊥)
--- the words of an operation are there, and are no valid instruction's
-Breaks ws at Rule.field = ((o : Op) × Names ws at o × (at + size o ≤ length ws) × ((i : Instr) → Stands ws at i → ⊥))
+-- the words of an operation are there, and not all is allowed that their fields have
+Breaks ws at Rule.field =
+    ((o : Op) × Names ws at o × (at + size o ≤ length ws) × (Allowed (limitsOf o) (getD ws at 0) (getD ws (at + 1) 0) → ⊥))
 -- the other two are writing's
 Breaks ws at Rule.words = ⊥
 Breaks ws at Rule.room = ⊥

@@ -1,32 +1,19 @@
--- The test of an instruction's fields holds exactly if all is allowed that its words have in them.
-use Prim.Native.Nat.{ℕ, _+_, _≤_, _<_, _-_}
+-- Reading's test of the fields of an operation's words holds exactly if all is allowed that they have.
+use Prim.Native.Nat.{ℕ, _<_}
 use native.Mathlib.Omega.{arith}
 use mathlib.Core.Path.{_≡_, refl, sym, ap, _∙_}
 use mathlib.Core.Bool.{Bool, true, false, not, _&&_}
-use mathlib.Core.List.{List}
-use mathlib.Core.Logic.{_↔_}
 use lib.Dec.{eqb, leb, ltb}
-use lib.ListN.{length, getD}
 use borrow.Author.Tests.{leb-true, le-leb, lt-ltb, eqb-true, eq-eqb, ne-eqb}
 use Rattle.ground.proofs.Bools.{never, and-left, and-right}
-use Rattle.ground.proofs.Tests.{false-of}
 use Rattle.words.specs.declared.instr.Op.{Op}
 use Rattle.words.specs.declared.forms.Need.{Need}
 use Rattle.words.specs.declared.forms.Second.{Second}
 use Rattle.words.specs.declared.forms.Limits.{Limits}
-use Rattle.words.specs.declared.table.FoundOp.{FoundOp}
-use Rattle.words.specs.declared.reading.ReadAnswer.{ReadAnswer}
-use Rattle.words.specs.Table.{opOf}
-use Rattle.words.specs.Forms.{form, limitsOf, size, needMet, guardFits, secondFits, fits}
-use Rattle.words.specs.Layout.{instrIn, guardIn, spareZero, secondSpare, opcodeIn, modifierIn}
+use Rattle.words.specs.Forms.{form, needMet, guardFits, secondFits, fits}
+use Rattle.words.specs.Layout.{instrIn, guardIn, spareZero, secondSpare}
 use Rattle.words.specs.Layout.{rdIn, rs1In, bit3In, negateIn, predIn, rs2In, rs3In, rs4In, spareIn, scopeIn}
-use Rattle.words.specs.Refusals.{Rule}
-use Rattle.words.specs.Rules.{Names}
-use Rattle.words.specs.Reading.{refused, readFields, readAt}
-use Rattle.words.proofs.Rows.{table}
-use Rattle.words.proofs.Sizes.{size-positive}
-use Rattle.words.proofs.ReadSteps.{whole}
-use Rattle.blocks.specs.Alone.{Needed, SecondAllowed, Allowed}
+use Rattle.words.specs.Rules.{Needed, SecondAllowed, Allowed}
 
 not-both : (a b : Bool) → (a ≡ true → b ≡ true → ⊥) → not (a && b) ≡ true
 not-both true true f = absurd (f refl refl)
@@ -91,13 +78,13 @@ second-kept (Second.Registers a b c) o w v h = (
 -- ---- all fields
 
 module _ (l : Limits) (o : Op) (w v : ℕ) where
-  abbrev right : Bool
+  abbrev pub right : Bool
   right = spareZero (l .second) w v && fits l (instrIn (l .second) o w v)
 
   split : right ≡ ((eqb (bit3In w) 0 && secondSpare (l .second) v) && headed (l .least) (l .rd) (l .rs1) (l .need) w (rests (l .second) o w v))
   split = same-head (l .least) (l .rd) (l .rs1) (l .need) (l .second) o w v
 
-  allowed : right ≡ true → Allowed l w v
+  pub allowed : right ≡ true → Allowed l w v
   allowed e =
       let spare = and-left (eqb (bit3In w) 0 && secondSpare (l .second) v) _ (sym split ∙ e) in
       let head = and-right (eqb (bit3In w) 0 && secondSpare (l .second) v) _ (sym split ∙ e) in
@@ -115,7 +102,7 @@ module _ (l : Limits) (o : Op) (w v : ℕ) where
         second = second-allowed (l .second) o w v (and-right (eqb (bit3In w) 0) _ spare) (and-right (leb (rs1In w) (l .rs1)) _ h3);
       }
 
-  kept : Allowed l w v → right ≡ true
+  pub kept : Allowed l w v → right ≡ true
   kept a =
       let s = second-kept (l .second) o w v (a .second) in
       let low : predIn w < 4 = omega arith in
@@ -131,32 +118,3 @@ module _ (l : Limits) (o : Op) (w v : ℕ) where
         le-leb _ _ (a .rs1),
         s .1,
       ) refl
-
--- ---- reading, where an operation's words are there
-
-module _ (ws : List ℕ) (at : ℕ) (o : Op) (named : Names ws at o) (room : at + size o ≤ length ws) where
-  abbrev w : ℕ
-  w = getD ws at 0
-
-  abbrev v : ℕ
-  v = getD ws (at + 1) 0
-
-  found : opOf (opcodeIn w) (modifierIn w) ≡ FoundOp.Carried o
-  found = rw (named .0, named .1) (table o .found)
-
-  read : readAt ws at ≡ readFields o (limitsOf o) w v at
-  read =
-      let some = size-positive (limitsOf o .second) in
-      let here : at < length ws = omega arith in
-      whole ws at here o found (limitsOf o) v refl refl (omega arith)
-
-  -- 6 is answered exactly if not all is allowed
-  pub field-if : (readAt ws at ≡ refused Rule.field at) ↔ (Allowed (limitsOf o) w v → ⊥)
-  field-if = (
-    λ e a.
-        let r = kept (limitsOf o) o w v a in
-        let f : readAt ws at ≡ ReadAnswer.Read (instrIn (limitsOf o .second) o w v) (size o) = read ∙ rw r refl in
-        let z : _≡_ {A = ℕ} 0 1 = cc in
-        omega arith,
-    λ f. read ∙ rw (false-of (right (limitsOf o) o w v) (λ r. f (allowed (limitsOf o) o w v r))) refl,
-  )
