@@ -194,14 +194,16 @@ class Full(InFolder):
         (self.room / 'small').mkdir()
         self.limited()
 
-    def test_temporary_folder(self):
+    def test_temporary_files(self):
+        """Room for the capture's copy and for no end state: the error is said, and nothing is left."""
         folder = self.mounted()
         if folder is None:
             self.skipTest('nothing can be mounted here')
         self.fill(folder)
+        os.truncate(folder / 'filling', os.stat(folder / 'filling').st_size - 4096)
         ran = front('replay', sample('reduction'), env={**os.environ, 'TMPDIR': str(folder)})
-        self.says(ran, 1, 'temporary')
-        self.assertEqual(['filling'], os.listdir(folder))
+        self.says(ran, 1, 'No space left on device')
+        self.assertEqual((b'', ['filling']), (ran.stdout, os.listdir(folder)))
 
 
 class Together(InFolder):
