@@ -64,7 +64,7 @@ class Target:
         self.name = name
         self.force = force
         self.evidence = {file.identity for file in evidence}
-        self.own = None  # what was put there last: open, so that no other file gets its number
+        self.own = None  # what was put there last, kept open, so that no other file gets its number
         self.check()
         self.probe()
 
@@ -80,7 +80,7 @@ class Target:
     def check(self):
         """Trouble where what stands at the name may not be replaced."""
         found = self.there()
-        if found is None or self.own and identity(found) == identity(os.fstat(self.own.fileno())):
+        if found is None or self.own is not None and identity(found) == identity(os.fstat(self.own)):
             return
         if identity(found) in self.evidence:
             raise Trouble(f'{shown(self.name)}: this is the file that is read, and it is never written')
@@ -106,17 +106,17 @@ class Target:
         """Makes the file one of these bytes, whole and on the disk, or leaves what stands there as it is."""
         try:
             fd, beside = self.beside()
-            file = open(fd, 'wb', buffering=0)
+            done_with = fd
             try:
                 streams.write_all(fd, data)
                 self.adopt(fd)
                 os.fsync(fd)
                 self.move(beside)
-                file, self.own = self.own, file
+                done_with, self.own = self.own, fd
             finally:
                 discard(beside)
-                if file:
-                    file.close()
+                if done_with is not None:
+                    os.close(done_with)
             sync_folder(self.name)
         except OSError as error:
             raise self.trouble(error) from error
@@ -134,7 +134,7 @@ class Target:
     def move(self, beside):
         """Moves the new file to its name: in place of what may be replaced, or where nothing stands."""
         self.check()
-        if self.force or self.own:
+        if self.force or self.own is not None:
             os.rename(beside, self.name)
         else:
             link(beside, self.name)

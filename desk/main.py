@@ -53,7 +53,9 @@ def build(words):
     none(options.parse('build', words))
     for program in programs.PROVED:
         programs.ensure(program)
-    running.run(programs.second('help'))
+    ran = running.run(programs.second('help'))
+    if ran.status != 0:
+        raise Trouble('the second program was not built: ' + ran.error.decode('utf-8', 'replace').strip())
     return ENDED
 
 

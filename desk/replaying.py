@@ -40,9 +40,9 @@ def replay(words):
             text = in_text(found, asked, data, room)
     except OSError as error:
         raise Trouble(f'temporary files: {error.strerror or error}') from error
-    streams.put(text.encode('ascii'))
     for trouble in troubles:
         streams.say(str(trouble))
+    streams.put(text.encode('ascii'))
     return troubles[0].status if troubles else OUTCOMES[found.outcome]
 
 

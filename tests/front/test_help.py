@@ -95,6 +95,7 @@ class ManPage(unittest.TestCase):
 
 
 class Installed(InFolder):
+    @unittest.skipUnless(shutil.which('make'), 'there is no make here')
     def test_runs_without_the_sources(self):
         subprocess.run(['make', '--silent', '-C', ROOT, 'install', f'PREFIX={self.room}'], check=True, capture_output=True)
         program = self.room / 'bin' / 'llinosfar'
