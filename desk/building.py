@@ -1,100 +1,18 @@
-"""The proved programs, built from what is checked out.
-
-Beside a program stands its state: a digest of the sources it was built from, one of the program itself, and the toolchain. A program whose
-state is another is proved and built again by rt, which proves only what has changed.
-"""
+"""Building the proved programs from what is checked out, by rt, which proves only what has changed."""
 import contextlib
 import fcntl
-import hashlib
 import os
 import re
 import selectors
-import shutil
 import subprocess
-from pathlib import Path
 
 from desk import running, streams
-from desk.home import BIN, CRATES, CRATES_TXT, HOME
+from desk.freshness import is_fresh, kit, note, plan, sources
+from desk.home import BIN, CRATES_TXT, HOME
 from desk.status import Stopped, Trouble
-
-# The parts of a crate that a program is made of.
-PARTS = ('src', 'specs', 'proofs')
 
 # A check that finds nothing changed takes less than these seconds, and isn't told of.
 PATIENCE = 5
-
-
-def kit():
-    """The toolchain's folder; None where there is none."""
-    rt = shutil.which('rt')
-    if rt is None:
-        return None
-    return Path(os.environ.get('RATTLE_HOME') or Path(rt).resolve().parent.parent)
-
-
-def kit_name():
-    """The toolchain's line about itself; None where there is none."""
-    folder = kit()
-    try:
-        return folder and (folder / 'KIT-ID').read_text().strip()
-    except OSError:
-        return None
-
-
-def dependencies():
-    """From each crate of the project to the crates that it names."""
-    crates = {}
-    for line in CRATES_TXT.read_text().splitlines():
-        name, colon, rest = line.partition('#')[0].partition(':')
-        if colon:
-            crates[name.strip()] = rest.split()
-    return crates
-
-
-def plan(program):
-    """The crates that a program is made of, each behind those it needs, in the order in which rt proves them."""
-    crates, levels = dependencies(), {}
-
-    def level(name):
-        if name not in levels:
-            needs = [level(need) for need in crates[name] if need in crates]
-            levels[name] = 1 + max(needs, default=0)
-        return levels[name]
-    level(program)
-    return sorted(levels, key=levels.get)
-
-
-def sources(program):
-    """A digest of all that a program is made from."""
-    digest = hashlib.sha256(CRATES_TXT.read_bytes())
-    for crate in plan(program):
-        for part in PARTS:
-            for path in sorted((CRATES / crate / part).rglob('*')):
-                if path.is_file():
-                    digest.update(f'\0{path.relative_to(CRATES)}\0'.encode())
-                    digest.update(hashlib.sha256(path.read_bytes()).digest())
-    return digest.hexdigest()
-
-
-def state_now(program):
-    """The lines of a program's state, as it would be were it built from what is checked out."""
-    made = hashlib.sha256((BIN / program).read_bytes()).hexdigest()
-    return [f'sources {sources(program)}', f'program {made}', f'toolchain {kit_name()}']
-
-
-def state_file(program):
-    """Where a program's state stands."""
-    return BIN / f'{program}.state'
-
-
-def is_fresh(program):
-    """Whether a program is what is checked out, by the toolchain that is here, or by any where there is none."""
-    try:
-        stored = state_file(program).read_text().splitlines()
-        now = state_now(program)
-    except FileNotFoundError:
-        return False
-    return stored == now or (kit() is None and stored[:2] == now[:2])
 
 
 def ensure(program):
@@ -107,8 +25,9 @@ def ensure(program):
             return
         with lock() as held:
             if not is_fresh(program):
+                digest = sources(program)
                 build(program, held)
-                state_file(program).write_text('\n'.join(state_now(program)) + '\n')
+                note(program, digest)
     except OSError as error:
         raise Trouble(f'{program} was not built: {error.filename}: {error.strerror}') from error
 
@@ -191,6 +110,7 @@ class Counter:
         return f'proving {self.done + 1} of {len(self.crates)}: {self.crates[self.done]}'
 
     def show(self):
+        """Writes the line over, on a terminal, while crates are left."""
         if self.on_terminal and self.done < len(self.crates):
             streams.show(f'\r\x1b[K{self.line()}')
 
@@ -207,5 +127,6 @@ class Counter:
             self.told = True
 
     def clear(self):
+        """Takes the line away."""
         if self.on_terminal:
             streams.show('\r\x1b[K')

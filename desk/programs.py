@@ -3,7 +3,7 @@ import os
 import resource
 import shutil
 
-from desk import building, streams
+from desk import building, freshness, streams
 from desk.home import BIN, HOME, is_checkout
 from desk.status import Trouble
 
@@ -31,7 +31,7 @@ def proved(program, *arguments):
     machine = os.uname().machine
     if machine == 'x86_64':
         return [path, *arguments]
-    kit = building.kit()
+    kit = freshness.kit()
     if kit is None:
         raise Trouble(f'rt, which has the emulator for {machine}, is not found')
     tools = kit / 'on' / machine / 'toolchain'

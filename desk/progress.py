@@ -28,8 +28,12 @@ class Progress:
 
     def __init__(self, budget):
         self.budget = budget
-        self.began = time.monotonic()
+        self.began = 0
         self.shown = streams.is_terminal(streams.ERROR)
+
+    def begin(self):
+        """Starts the clock."""
+        self.began = time.monotonic()
 
     def at(self, steps):
         """Shows how far the run has come."""

@@ -62,6 +62,7 @@ class Run:
     def answer(self):
         """The report; Trouble where the program gave none, in its words and with the capture's own name."""
         program = programs.proved('replay_capture', *(path(self.room, part) for part in ('capture', 'out', 'key')), *self.slices())
+        self.progress.begin()
         try:
             ran = running.run(program, programs.environment(), told=self.told)
         except Stopped:

@@ -1,7 +1,7 @@
 """llinosfar --version: the project and the toolchain."""
 import subprocess
 
-from desk import VERSION, building
+from desk import VERSION, freshness
 from desk.home import HOME, is_checkout
 
 
@@ -14,7 +14,7 @@ def lines():
             return f'llinosfar {VERSION}\n'
     commit = checked_out()
     project = f'llinosfar {VERSION}' + (f' ({commit})' if commit else '')
-    return f'{project}\ntoolchain {building.kit_name() or "not found"}\n'
+    return f'{project}\ntoolchain {freshness.kit_name() or "not found"}\n'
 
 
 def checked_out():

@@ -86,6 +86,12 @@ class Checkout(InFolder):
         path = self.home / 'calls'
         return len(path.read_text().splitlines()) if path.exists() else 0
 
+    def wait_for_calls(self, count):
+        end = time.monotonic() + PATIENCE
+        while self.calls() < count:
+            self.assertLess(time.monotonic(), end)
+            time.sleep(0.02)
+
     def write(self, crate, text):
         (self.home / 'crates' / crate / 'src' / ('main.rt' if crate == 'list_day' else 'lib.rt')).write_text(text)
 
@@ -138,6 +144,18 @@ class Fresh(Checkout):
         self.write('low', 'low 1\n')
         self.prints('low 1', 'list_day 1')
         self.assertEqual(3, self.calls())
+
+    def test_a_change_while_it_is_built(self):
+        """What was changed meanwhile is not taken for what was built."""
+        slow = self.home / 'slow'
+        slow.touch()
+        run = subprocess.Popen(self.words(), stdin=subprocess.DEVNULL, stdout=subprocess.PIPE, env=self.environment())
+        self.wait_for_calls(1)
+        (self.home / 'crates' / 'middle' / 'src' / 'lib.rt').write_text('middle 2\n')
+        slow.unlink()
+        run.communicate(timeout=PATIENCE)
+        self.prints('low 1', 'list_day 1')
+        self.assertEqual(2, self.calls())
 
     def test_built_by_rt_itself(self):
         subprocess.run(['rt', 'check', 'list_day'], cwd=self.home, env=self.environment(), stdout=subprocess.DEVNULL)
@@ -210,12 +228,6 @@ class Together(Checkout):
         self.assertFalse((self.home / 'target' / 'bin' / 'list_day').exists())
         slow.unlink()
         self.prints('low 1', 'list_day 1')
-
-    def wait_for_calls(self, count):
-        end = time.monotonic() + PATIENCE
-        while self.calls() < count:
-            self.assertLess(time.monotonic(), end)
-            time.sleep(0.02)
 
 
 class Counting(Checkout):

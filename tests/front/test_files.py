@@ -236,6 +236,12 @@ class Together(InFolder):
             target.put(b'mine')
         self.assertEqual((b'earlier', ['out']), (out.read_bytes(), self.left()))
 
+    def test_a_move_never_replaces(self):
+        mine, there = self.file('mine', b'mine'), self.file('there')
+        with self.assertRaises(FileExistsError):
+            files.link(mine, there)
+        self.assertEqual((b'earlier', b'mine'), (there.read_bytes(), mine.read_bytes()))
+
     def test_an_own_file_is_replaced(self):
         out = self.room / 'out'
         target = files.Target(str(out), False, [])
