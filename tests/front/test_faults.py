@@ -85,6 +85,12 @@ class Causes(unittest.TestCase):
         self.assertEqual(['lane 1: the divisor is 0'], told(report('DIV r0, r0, r1', [(4, '00000002')]), state))
         self.assertEqual(['lane 0: the address is past local memory'], told(report('LOAD r1, [r0 + 0]', [(3, '00000001')]), state))
 
+    def test_a_cause_of_another_kind(self):
+        state = end([[6, 0, 0, 0], [400, 0, 0, 0]], device=4)
+        self.assertEqual(['lane 0: the address is past device memory', 'lane 1: the address is not a multiple of 4'],
+                         told(report('LOAD r1, [r0 + 0]', [(1, '00000002'), (2, '00000001')]), state))
+        self.assertEqual(['lane 0: the address is past device memory'], told(report('DIV r0, r0, r1', [(2, '00000001')]), state))
+
     def test_without_the_instruction(self):
         found = report(None, [(1, '000000A8'), (2, '00000040')])
         self.assertEqual(['lanes 3,5,7: the address is not a multiple of 4', 'lane 6: the address is past device memory'],

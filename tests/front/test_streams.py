@@ -1,6 +1,7 @@
 """Standard streams that are full, broken or closed: an answer that isn't written is status 1, and nothing crashes."""
 import os
 import subprocess
+import time
 import unittest
 
 from support import FRONT, InFolder, front, sample
@@ -54,6 +55,15 @@ class Output(InFolder):
         self.says(ran, 1, 'standard output: Bad file descriptor')
         self.assertEqual(32 + 24, key.stat().st_size)
 
+    def test_one_write(self):
+        """A pipe that hands on each write by itself gives the whole report at once."""
+        reader, writer = os.pipe2(os.O_DIRECT)
+        run = subprocess.Popen([FRONT, 'replay', sample('t14')], stdout=writer)
+        os.close(writer)
+        self.assertEqual(EXPLAINED, os.read(reader, 1 << 16))
+        os.close(reader)
+        self.assertEqual(10, run.wait())
+
     def test_not_to_wait(self):
         """A pipe that makes no writer wait, and a reader that is slow."""
         reader, writer = os.pipe()
@@ -66,6 +76,7 @@ class Output(InFolder):
             pass
         run = subprocess.Popen([FRONT, 'replay', sample('t14')], stdout=writer)
         os.close(writer)
+        time.sleep(1.5)
         with open(reader, 'rb') as pipe:
             self.assertEqual(bytes(filled) + EXPLAINED, pipe.read())
         self.assertEqual(10, run.wait())
