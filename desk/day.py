@@ -55,7 +55,7 @@ def answer(program, data):
     except OSError as error:
         raise Trouble(f'temporary files: {error.strerror or error}') from error
     if ran.status != 0:
-        raise Trouble(f'{program} ended with status {ran.status}')
+        raise Trouble(f'{program} {ran.ending()}')
     return ran
 
 

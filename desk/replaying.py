@@ -72,7 +72,7 @@ class Run:
         self.progress.clear()
         said = ran.error.decode('utf-8', 'replace').replace(path(self.room, 'capture'), files.shown(self.name)).rstrip('\n')
         if ran.status != 0:
-            raise Trouble(said or f'replay_capture ended with status {ran.status}')
+            raise Trouble(said or f'replay_capture {ran.ending()}')
         if said:
             raise Trouble(said)
         return report.parse(ran.out)

@@ -18,6 +18,10 @@ class Ran:
         self.out = out
         self.error = error
 
+    def ending(self):
+        """How the program ended, in words."""
+        return f'ended by signal {-self.status}' if self.status < 0 else f'ended with status {self.status}'
+
 
 def listen():
     """Has the signals that ask for a stop raise Stopped, but for those that are ignored."""

@@ -58,7 +58,7 @@ def second(command, read, room, *more):
     if ran.status != 0:
         said = in_names(ran, read, room).removeprefix('llinosfar: ').rstrip('\n')
         refused = re.search(r'\brefused \d+ at place \d+', said)
-        raise (Refused if refused else Trouble)(said or f'the second program ended with status {ran.status}')
+        raise (Refused if refused else Trouble)(said or f'the second program {ran.ending()}')
     return ran
 
 

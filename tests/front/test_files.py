@@ -236,6 +236,14 @@ class Together(InFolder):
             target.put(b'mine')
         self.assertEqual((b'earlier', ['out']), (out.read_bytes(), self.left()))
 
+    def test_a_file_that_came_at_the_last_moment(self):
+        """Behind the last look at what stands there."""
+        target = files.Target(str(self.room / 'out'), False, [])
+        target.check = lambda: self.file('out')
+        with self.assertRaisesRegex(Trouble, 'File exists'):
+            target.put(b'mine')
+        self.assertEqual((b'earlier', ['out']), ((self.room / 'out').read_bytes(), self.left()))
+
     def test_a_move_never_replaces(self):
         mine, there = self.file('mine', b'mine'), self.file('there')
         with self.assertRaises(FileExistsError):
