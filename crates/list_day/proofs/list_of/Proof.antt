@@ -4,16 +4,16 @@ use native.Mathlib.Omega.{arith}
 use lib.ListN.{length}
 use lib.Seq.{length-take-le}
 use borrow.Author.Needs.{needs}
-use Rattle.list_day.proofs.list_from.Statement.{statement}
-use Rattle.list_day.proofs.list_from.Tie as tie
+use Rattle.list_day.proofs.list_of.Statement.{statement}
+use Rattle.list_day.proofs.list_of.Tie as tie
 
-slice-aggregate-write-all : tie.Need-slice-aggregate-write-all
-slice-aggregate-write-all c =
-    let t = c .before .before .before .list .last .1 .0 in
-    let l : length t ≡ 160000 = c .before .before .before .list .kept .1 .0 in
+slice-aggregate-write-whole-2 : tie.Need-slice-aggregate-write-whole-2
+slice-aggregate-write-whole-2 c =
+    let t = c .before .before .before .before .list .last .1 .0 in
+    let l : length t ≡ 160000 = c .before .before .before .before .list .kept .1 .0 in
     sym (length-take-le _ t (omega arith))
 
-pub list-from-spec : {M : Type 1} → statement M
-list-from-spec = tie.close (tie.spec
-    (λ c. search needs) (λ c κs. search needs) (λ c. search needs) (λ c. search needs) (λ c. search needs) (λ c κs. search needs)
-    (λ c. search needs) slice-aggregate-write-all (λ c κs. search needs) (λ c. search needs) (λ c. search needs))
+pub list-of-spec : {M : Type 1} → statement M
+list-of-spec = tie.close (tie.spec
+    (λ c. search needs) (λ c κs. search needs) (λ c. search needs) (λ c. search needs) slice-aggregate-write-whole-2 (λ c κs. search needs)
+    (λ c. search needs) (λ c. search needs))
