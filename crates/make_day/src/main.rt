@@ -1,6 +1,10 @@
 // Makes a day file from bodies that lie one after another in the file that the first argument names, or on standard input where
-// there is none. The day file goes to standard output; a refusal's number and place go to standard error.
+// there is none. The day file goes to standard output; a refusal's number and place, and what can't be read or written, go to standard
+// error.
 use dayfile::answer::MakeAnswer;
+use files::Input;
+use files::read_whole;
+use files::write_whole;
 use libc::STDERR_FILENO;
 use libc::STDIN_FILENO;
 use libc::STDOUT_FILENO;
@@ -36,24 +40,30 @@ fn file_room() -> [u8; FILE_ROOM]
     [0; FILE_ROOM]
 }
 
-// Makes the file of what can be read.
-fn make_from(fd: i32) {
-    let mut bodies = bodies_room();
-    let n = io::read_full(fd, &mut bodies);
+// Makes the file of these bodies, and writes it.
+fn make_of(bodies: &[u8]) {
     let mut file = file_room();
-    match dayfile::make(&bodies[..n], &mut file) {
+    match dayfile::make(bodies, &mut file) {
         MakeAnswer::Made(k) => {
             if k <= FILE_ROOM {
-                io::write_all(STDOUT_FILENO, &file[..k]);
+                write_whole(b"standard output", STDOUT_FILENO, &file[..k]);
             }
         }
         MakeAnswer::Refused(number, place) => refuse(number, place),
     }
 }
 
+// Makes the file of what can be read.
+fn make_from(name: &[u8], fd: i32) {
+    let mut bodies = bodies_room();
+    if let Input::Read(n) = read_whole(name, fd, &mut bodies) {
+        make_of(&bodies[..n]);
+    }
+}
+
 fn main() {
     if os::arg_count() < 2 {
-        make_from(STDIN_FILENO);
+        make_from(b"standard input", STDIN_FILENO);
         return;
     }
     let mut path = io::buffer();
@@ -63,6 +73,6 @@ fn main() {
         os::fail(&path[..n]);
         return;
     }
-    make_from(fd);
+    make_from(&path[..n], fd);
     libc::close(fd);
 }

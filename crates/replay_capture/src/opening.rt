@@ -23,17 +23,40 @@ const DEVICE_COUNT: usize = 36;
 
 const LOCAL_COUNT: usize = 40;
 
-// Replays the capture in the first bytes of `file`, which is room for what is written after, with rooms for its memories.
-fn replay_in(
+// Replays what was read of a capture, or says what it breaks that is none.
+fn replay_read(
     path: &[u8],
     sliced: bool,
-    file: &mut [u8],
-    size: usize,
+    read: ReadAnswer,
+    code: &[u32],
+    regs: &mut [u32],
     device: &mut [u32],
     local: &mut [u32],
+    state: &[u32],
+    file: &mut [u8],
 ) {
+    match read {
+        ReadAnswer::Unreadable { rule, place } => say_unreadable(path, rule, place),
+        ReadAnswer::Read { head, counts } => replay_counted(
+            head,
+            counts,
+            sliced,
+            code,
+            regs,
+            device,
+            local,
+            state,
+            file,
+        ),
+    }
+}
+
+// Replays the capture in the first bytes of `file`, which is room for what is written after, in the small rooms.
+fn replay_small(path: &[u8], sliced: bool, file: &mut [u8], size: usize) {
     let mut code = [0u32; CODE_ROOM];
     let mut regs = [0u32; REGISTER_ROOM];
+    let mut device = small_device();
+    let mut local = [0u32; SMALL_LOCAL];
     let mut state = [0u32; STATE_ROOM];
     if file.len() < size {
         return;
@@ -42,38 +65,53 @@ fn replay_in(
         &file[..size],
         &mut code,
         &mut regs,
-        device,
-        local,
+        &mut device,
+        &mut local,
         &mut state,
     );
-    match read {
-        ReadAnswer::Unreadable { rule, place } => say_unreadable(path, rule, place),
-        ReadAnswer::Read { head, counts } => replay_counted(
-            head,
-            counts,
-            sliced,
-            &code,
-            &mut regs,
-            device,
-            local,
-            &state,
-            file,
-        ),
-    }
+    replay_read(
+        path,
+        sliced,
+        read,
+        &code,
+        &mut regs,
+        &mut device,
+        &mut local,
+        &state,
+        file,
+    );
 }
 
-// Replays a capture in the small rooms.
-fn replay_small(path: &[u8], sliced: bool, file: &mut [u8], size: usize) {
-    let mut device = small_device();
-    let mut local = [0u32; SMALL_LOCAL];
-    replay_in(path, sliced, file, size, &mut device, &mut local);
-}
-
-// Replays a capture in the large rooms.
+// The same in the large rooms. Were the rooms lent to one function for both, the compiler would put the large ones on the stack of every
+// run: it makes a small function part of its caller.
 fn replay_large(path: &[u8], sliced: bool, file: &mut [u8], size: usize) {
+    let mut code = [0u32; CODE_ROOM];
+    let mut regs = [0u32; REGISTER_ROOM];
     let mut device = large_device();
     let mut local = large_local();
-    replay_in(path, sliced, file, size, &mut device, &mut local);
+    let mut state = [0u32; STATE_ROOM];
+    if file.len() < size {
+        return;
+    }
+    let read = captures::read(
+        &file[..size],
+        &mut code,
+        &mut regs,
+        &mut device,
+        &mut local,
+        &mut state,
+    );
+    replay_read(
+        path,
+        sliced,
+        read,
+        &code,
+        &mut regs,
+        &mut device,
+        &mut local,
+        &state,
+        file,
+    );
 }
 
 // Reads a capture on into a larger room, from its first `size` bytes, which stand in a room before.
@@ -96,21 +134,17 @@ fn replay_on(path: &[u8], sliced: bool, fd: i32, before: &[u8], size: usize) {
     }
 }
 
-// Whether the small rooms hold the memories that a capture's counts say.
-fn is_small(front: &[u8]) -> bool {
-    let device = get(front, DEVICE_COUNT) as usize;
-    let local = get(front, LOCAL_COUNT) as usize;
-    (device <= SMALL_DEVICE) & (local <= SMALL_LOCAL)
-}
-
-// Replays the capture that can be read.
+// Replays the capture that can be read, in the small rooms where they hold both its memories. The large ones are called for in two places,
+// so that they stay a function of their own.
 fn replay_open(path: &[u8], sliced: bool, fd: i32) {
     let mut file = small_file();
     if let Input::Read(size) = read_whole(path, fd, &mut file) {
-        if is_small(&file) {
-            replay_small(path, sliced, &mut file, size);
-        } else {
+        if SMALL_DEVICE < get(&file, DEVICE_COUNT) as usize {
             replay_on(path, sliced, fd, &file, size);
+        } else if SMALL_LOCAL < get(&file, LOCAL_COUNT) as usize {
+            replay_on(path, sliced, fd, &file, size);
+        } else {
+            replay_small(path, sliced, &mut file, size);
         }
     }
 }

@@ -1,19 +1,23 @@
--- The text's length is at most the buffer's.
-use mathlib.Core.Path.{_≡_, sym}
-use native.Mathlib.Omega.{arith}
+-- What was read stands in the room.
+use mathlib.Core.Path.{sym}
+use Prim.Native.Nat.{_≤_}
 use lib.ListN.{length}
 use lib.Seq.{length-take-le}
+use Rattle.files.proofs.Counting.{read-within}
 use borrow.Author.Needs.{needs}
 use Rattle.list_day.proofs.list_from.Statement.{statement}
 use Rattle.list_day.proofs.list_from.Tie as tie
 
-slice-aggregate-write-all : tie.Need-slice-aggregate-write-all
-slice-aggregate-write-all c =
-    let t = c .before .before .before .list .last .1 .0 in
-    let l : length t ≡ 160000 = c .before .before .before .list .kept .1 .0 in
-    sym (length-take-le _ t (omega arith))
+within : (z : tie.After-n) → z .n .given .0 .0 ≤ length (z .before .before .before .read-whole .last .1 .1 .0)
+within z = read-within _ _ _ (z .n .given .1) (z .before .before .before .read-whole .ensures)
+
+array-share-prefix-file : tie.Need-array-share-prefix-file
+array-share-prefix-file c = within (c .before)
+
+slice-aggregate-list-of : tie.Need-slice-aggregate-list-of
+slice-aggregate-list-of c = sym (length-take-le _ _ (within (c .before .before)))
 
 pub list-from-spec : {M : Type 1} → statement M
 list-from-spec = tie.close (tie.spec
-    (λ c. search needs) (λ c κs. search needs) (λ c. search needs) (λ c. search needs) (λ c. search needs) (λ c κs. search needs)
-    (λ c. search needs) slice-aggregate-write-all (λ c κs. search needs) (λ c. search needs) (λ c. search needs))
+    (λ c. search needs) (λ c κs. search needs) (λ c. search needs) array-share-prefix-file slice-aggregate-list-of (λ c κs. search needs)
+    (λ c. search needs) (λ c. search needs) (λ c. search needs))

@@ -1,20 +1,23 @@
--- The file's length is at most the buffer's.
-use mathlib.Core.Path.{_≡_, sym, _∙_}
-use native.Mathlib.Omega.{arith}
+-- What was read stands in the room.
+use mathlib.Core.Path.{sym}
+use Prim.Native.Nat.{_≤_}
 use lib.ListN.{length}
 use lib.Seq.{length-take-le}
+use Rattle.files.proofs.Counting.{read-within}
 use borrow.Author.Needs.{needs}
 use Rattle.make_day.proofs.make_from.Statement.{statement}
 use Rattle.make_day.proofs.make_from.Tie as tie
 
-slice-aggregate-write-all : tie.Need-slice-aggregate-write-all
-slice-aggregate-write-all c =
-    let t = c .before .before .before .before .before .before .make .last .1 .0 in
-    let l : length t ≡ 835588 = c .before .before .before .before .before .before .make .kept .1 .0 ∙ sym (c .before .before .before .before .before .before .before .before .before .file-room .ensures) in
-    sym (length-take-le _ t (omega arith))
+within : (z : tie.After-n) → z .n .given .0 .0 ≤ length (z .before .before .before .read-whole .last .1 .1 .0)
+within z = read-within _ _ _ (z .n .given .1) (z .before .before .before .read-whole .ensures)
+
+array-share-prefix-bodies : tie.Need-array-share-prefix-bodies
+array-share-prefix-bodies c = within (c .before)
+
+slice-aggregate-make-of : tie.Need-slice-aggregate-make-of
+slice-aggregate-make-of c = sym (length-take-le _ _ (within (c .before .before)))
 
 pub make-from-spec : {M : Type 1} → statement M
 make-from-spec = tie.close (tie.spec
-    (λ c κs. search needs) (λ c. search needs) (λ c κs. search needs) (λ c κs. search needs) (λ c. search needs) (λ c. search needs)
-    (λ c. search needs) (λ c κs. search needs) (λ c. search needs) (λ c. search needs) slice-aggregate-write-all (λ c κs. search needs)
-    (λ c. search needs) (λ c κs. search needs) (λ c. search needs) (λ c. search needs) (λ c. search needs))
+    (λ c κs. search needs) (λ c. search needs) (λ c κs. search needs) (λ c. search needs) array-share-prefix-bodies slice-aggregate-make-of
+    (λ c κs. search needs) (λ c. search needs) (λ c. search needs) (λ c. search needs))
