@@ -73,7 +73,7 @@ fn at_endloop(inside: Inside) -> Turn
 }
 
 // One instruction, where so much room is left, directly inside this, and in a loop or not.
-pub fn judge(item: Item, room: usize, inside: Inside, in_loop: bool) -> Turn
+pub(crate) fn judge(item: Item, room: usize, inside: Inside, in_loop: bool) -> Turn
     ensures { λ r. ⌜ r ≡ turnOf item room inside in_loop ⌝ }
 {
     match item {

@@ -9,6 +9,7 @@ use lib.Dec.{leb}
 use lib.ListN.{length, take, drop}
 use lib.Seq.{take-at}
 use borrow.Author.Tests.{leb-true}
+use Rattle.ground.proofs.Choices.{cond-by}
 use Rattle.ground.proofs.Tests.{true-or-false}
 use Rattle.numbers.specs.Numbers.{Bytes, Small}
 use Rattle.numbers.proofs.Placing.{placed-front}
@@ -134,6 +135,17 @@ unfolding judged
 refusal-keeps Fine f l r p e = absurd (let z : _≡_ {A = ℕ} 0 1 = cc in omega arith)
 refusal-keeps (Broken s q) f l r p e = refl
 
-pub refused-keeps : (f : List ℕ) (l : Lent) (r : Rule) (p : ℕ) → readOf f l .answer ≡ Unreadable r p → readOf f l .after ≡ l
+pub read-refused-keeps : (f : List ℕ) (l : Lent) (r : Rule) (p : ℕ) → readOf f l .answer ≡ Unreadable r p → readOf f l .after ≡ l
 unfolding readOf
-refused-keeps f l r p e = refusal-keeps (verdictOf f (roomsOf l)) f l r p e
+read-refused-keeps f l r p e = refusal-keeps (verdictOf f (roomsOf l)) f l r p e
+
+-- nor does a capture that isn't written
+pub write-refused-keeps : (c : Capture) (o : List ℕ) (n p : ℕ) → writeOf c o .answer ≡ Refused n p → writeOf c o .file ≡ o
+unfolding writeOf
+write-refused-keeps c o n p =
+    cond-by (λ (w : Writing). w .answer ≡ Refused n p → w .file ≡ o) (fits c) _ _
+    (λ h.
+    cond-by (λ (w : Writing). w .answer ≡ Refused n p → w .file ≡ o) (leb (length (captureOf c)) (length o)) _ _
+    (λ k e. absurd (refused-unwritten n p (length (captureOf c)) (sym e)))
+    (λ k e. refl))
+    (λ h e. refl)

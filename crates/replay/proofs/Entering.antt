@@ -23,6 +23,7 @@ use Rattle.replay.specs.Replay.{
   stateMachine,
   runFrom,
   filled,
+  localAfter,
   launchMachine,
 }
 
@@ -65,3 +66,12 @@ pub launched-run :
     state ≡ stateOf (launch (launchedLanes s)) clear → x ≡ runFrom s code (stateMachine state regs device full) →
     x ≡ runFrom s code (launchMachine s regs device local)
 launched-run s code regs device local fills is e = e ∙ rw (fills, is)
+
+-- where a launch is refused, its local memory is as lent
+pub unfilled : {v : Checked} (local : List ℕ) {after : List ℕ} {number place : ℕ} → after ≡ localAfter v local → v ≡ Checked.Refused number place
+    → after ≡ local
+unfilled local is refuses = is ∙ ap (λ (v : Checked). localAfter v local) refuses
+
+-- and where it runs it is filled
+pub full : {v : Checked} (local : List ℕ) {after : List ℕ} → after ≡ localAfter v local → v ≡ Checked.Fine → after ≡ filled local
+full local is fine = is ∙ ap (λ (v : Checked). localAfter v local) fine

@@ -108,6 +108,11 @@ fill = 0
 abbrev pub filled : List ℕ → List ℕ
 filled local = replicate (length local) fill
 
+-- local memory once a launch is tested: filled, or as lent where it is refused
+abbrev pub localAfter : Checked → List ℕ → List ℕ
+localAfter Checked.Fine local = filled local
+localAfter (Checked.Refused number place) local = local
+
 -- p1 to p3 clear, the launched lanes active, no block open, registers as lent
 abbrev pub launchMachine : Settings → List ℕ → List ℕ → List ℕ → Machine
 launchMachine s regs device local =

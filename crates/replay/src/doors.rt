@@ -12,7 +12,7 @@ use wave::launch::not_launched;
 use wave::state::State;
 use wave::state::tidy;
 ghost use mathlib.Core.Path.{_≡_};
-ghost use Rattle.replay.specs.Replay.{refusedAs, answered, stateMachine, runFrom, launchOf, resumeOf};
+ghost use Rattle.replay.specs.Replay.{refusedAs, answered, localAfter, stateMachine, runFrom, launchOf, resumeOf};
 
 // What local memory holds when a launched run starts.
 pub const FILL: u32 = 0;
@@ -57,6 +57,16 @@ fn run_from(
     }
 }
 
+// Local memory once a launch is tested: filled, or as lent where it is refused.
+fn fill_local(test: Checked, local: &mut [u32])
+    ensures { λ r. ⌜ now (local .exit) ≡ localAfter test (now (local .entry)) ⌝ }
+{
+    match test {
+        Checked::Refused(number, place) => {}
+        Checked::Fine => fill_with(local, FILL),
+    }
+}
+
 // A kernel from its start. Refusals 1 to 10 change nothing lent and return place 0, empty sets and no block; otherwise local memory was
 // filled, whatever came after.
 pub fn launch(
@@ -71,19 +81,17 @@ pub fn launch(
         ≡ launchOf settings (now (code .entry)) (now (regs .entry)) (now (device .entry)) (now (local .entry)) ⌝ }
 {
     let test = test_launch(settings, code, regs);
+    fill_local(test, local);
     match test {
         Checked::Refused(number, place) => refused(number, place, not_launched()),
-        Checked::Fine => {
-            fill_with(local, FILL);
-            run_from(
-                settings,
-                launched(settings.lanes),
-                code,
-                regs,
-                device,
-                local,
-            )
-        }
+        Checked::Fine => run_from(
+            settings,
+            launched(settings.lanes),
+            code,
+            regs,
+            device,
+            local,
+        ),
     }
 }
 

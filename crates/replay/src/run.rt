@@ -43,6 +43,7 @@ pub(crate) fn go(
         ≡ runOf settings (now (code .entry)) (settings .budget)
         (machineOf h (now (path .entry)) (now (regs .entry)) (now (device .entry)) (now (local .entry))) ⌝ }
 {
+    let budget = settings.budget;
     let mut hot = h;
     let mut steps: u32 = 0;
     loop {
@@ -53,7 +54,7 @@ pub(crate) fn go(
                 hot,
             };
         }
-        if steps == settings.budget {
+        if steps == budget {
             return Stopped {
                 outcome: Outcome::OutOfBudget,
                 steps,

@@ -26,9 +26,10 @@ pub(crate) fn turn_if(h: Hot, bl: &mut [u32; PATH_NUMBERS]) -> Hot
     }
     let e = d - 1;
     let k = BLOCK_NUMBERS * (e as usize);
-    n.active = bl[k + ASIDE];
+    let waiting = bl[k + ASIDE];
     bl[k] = AFTER_ELSE;
     bl[k + ASIDE] = h.active;
+    n.active = waiting;
     n
 }
 

@@ -11,11 +11,11 @@ use Rattle.replay.proofs.run.go.Statement.{statement}
 use Rattle.replay.proofs.run.go.Tie as tie
 
 abbrev Inv-loop : tie.InvT-loop
-Inv-loop settings code path₀ regs₀ device₀ local₀ hot₀ steps₀ path regs device local hot steps =
-    Going settings code (settings .budget) steps (machineOf hot₀ path₀ regs₀ device₀ local₀) (machineOf hot path regs device local)
+Inv-loop settings code path₀ regs₀ device₀ local₀ budget hot₀ steps₀ path regs device local hot steps =
+    Going settings code budget steps (machineOf hot₀ path₀ regs₀ device₀ local₀) (machineOf hot path regs device local)
 
 abbrev μ-loop : tie.MeasureT-loop
-μ-loop settings code path₀ regs₀ device₀ local₀ hot₀ steps₀ path regs device local hot steps = settings .budget - steps
+μ-loop settings code path₀ regs₀ device₀ local₀ budget hot₀ steps₀ path regs device local hot steps = budget - steps
 
 -- the machine that the run starts from
 abbrev first : tie.Start Inv-loop μ-loop → Machine
@@ -28,7 +28,7 @@ given z = let l = z .step .last .1 .1 .1 in stepped (z .step .result) (l .0) (l 
 -- what is known of the turn once its step is made
 turn : (z : tie.After-is-clear Inv-loop μ-loop) →
     let made = z .before .before .before .before .before .before .before .before .before in
-    let top = made .before .before .before .before .before .before .before .before .before .before .before in
+    let top = made .before .before .before .before .before .before .before .before .before .before in
     let s = top .before .before .before .before .before in
     Turn (s .args .settings) (s .args .code .now) (s .args .settings .budget) (top .loop .steps) (first s) (given made)
 turn z =
@@ -38,11 +38,11 @@ turn z =
     let made = regs .before in
     let read = made .before .before .before .before .before in
     let left = read .before .before in
-    let asked = left .before .before .before in
+    let asked = left .before .before in
     record {
       machine = _;
       going = asked .before .loop .inv;
-      unended = sym (asked .has-ended .ensures) ∙ left .before .before .if1 .left;
+      unended = sym (asked .has-ended .ensures) ∙ left .before .if1 .left;
       unspent = left .if2 .left;
       instr = _;
       reads = read .instr-at .ensures;
@@ -58,8 +58,8 @@ returns c = ends (c .before .before .loop .inv) (sym (c .before .has-ended .ensu
 
 returns-2 : tie.Need-returns-2 Inv-loop μ-loop
 returns-2 c =
-    let asked = c .before .before .before in
-    spends (asked .before .loop .inv) (sym (asked .has-ended .ensures) ∙ c .before .before .if1 .left) (c .if2 .taken)
+    let asked = c .before .before in
+    spends (asked .before .loop .inv) (sym (asked .has-ended .ensures) ∙ c .before .if1 .left) (c .if2 .taken)
 
 same-length-7 : tie.Need-same-length-7 Inv-loop μ-loop
 same-length-7 c = still-long (turn (c .before)) .regs
@@ -76,8 +76,8 @@ returns-3 c = faults (turn (c .before)) (sym (c .before .is-clear .ensures) ∙ 
 add-steps : tie.Need-add-steps Inv-loop μ-loop
 add-steps c =
     let made = c .before .before .before .before .before .before .before .before .before .before in
-    let known = made .before .before .before .before .before .before .before .before .struct-known in
-    omega (arith, below (turn (c .before)), known .given .1 .1 .1 .0)
+    let start = made .before .before .before .before .before .before .before .before .before .before .before .before .before .before .before in
+    omega (arith, below (turn (c .before)), start .good .0 .1 .1 .1 .1 .1 .0 .1)
 
 loop-less : tie.Need-loop-less Inv-loop μ-loop
 loop-less c = omega (arith, below (turn (c .before)))
