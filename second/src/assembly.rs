@@ -7,39 +7,33 @@
 //! IF on not p1               BREAK on p1                ADD r3, r1, r2 on p2
 //! ```
 //!
-//! A number of eight digits is hexadecimal, every other decimal.
+//! Numbers are written and read as `numerals` says.
 
+use crate::numerals;
 use crate::operations::{Form, Operation};
+use crate::refusal::{Refusal, refuse};
 use crate::words::{self, Instruction};
 
 /// The names of the special numbers 0, 1 and 2.
 const SPECIALS: [&str; 3] = ["lane", "wave", "waves"];
 
-/// A number as text: decimal up to seven digits, else eight hexadecimal digits.
-pub fn number_text(number: u32) -> String {
-    if number < 10_000_000 {
-        number.to_string()
-    } else {
-        format!("{number:08X}")
-    }
-}
-
-/// The number of a text: eight digits are hexadecimal, any other count decimal.
-pub fn number(text: &str) -> Result<u32, String> {
-    let digits = text.bytes().all(|byte| byte.is_ascii_hexdigit());
-    let parsed = match text.len() {
-        8 if digits => u32::from_str_radix(text, 16).ok(),
-        _ if digits => text.parse().ok(),
-        _ => None,
+/// Writes an instruction's text and says how many bytes it took. Tests 12, 13, at place 0.
+/// Output past the text stays as lent.
+pub fn write(instruction: &Instruction, output: &mut [u8]) -> Result<usize, Refusal> {
+    words::write(instruction, &mut [0; 2])?;
+    let text = print(instruction);
+    let Some(room) = output.get_mut(..text.len()) else {
+        return refuse(13, 0);
     };
-    parsed.ok_or(format!("expected a number, found '{text}'"))
+    room.copy_from_slice(text.as_bytes());
+    Ok(text.len())
 }
 
-/// An instruction of the desk as text.
+/// An instruction that words give, as text.
 pub fn print(i: &Instruction) -> String {
     let name = i.operation.name();
     let [rd, rs1, rs2, rs3] = [i.rd, i.rs1, i.rs2, i.rs3];
-    let offset = number_text(i.number);
+    let offset = numerals::print(i.number);
     let mut text = match i.operation.form() {
         Form::TwoSources => format!("{name} r{rd}, r{rs1}, r{rs2}"),
         Form::Comparison => format!("{name} p{rd}, r{rs1}, r{rs2}"),
@@ -68,12 +62,8 @@ fn stores(operation: Operation) -> bool {
 
 /// The instruction of a text, where some words give it.
 pub fn parse(text: &str) -> Result<Instruction, String> {
-    let marks = |c: char| c.is_whitespace() || ",[]+".contains(c);
     let mut tokens = Tokens {
-        rest: text
-            .split(marks)
-            .filter(|token| !token.is_empty())
-            .collect(),
+        rest: tokens(text).collect(),
     };
     let name = tokens.next("an instruction's name")?;
     let operation = Operation::with_name(name)
@@ -81,7 +71,7 @@ pub fn parse(text: &str) -> Result<Instruction, String> {
     let mut instruction = Instruction::plain(operation);
     operands(&mut instruction, &mut tokens)?;
     if tokens.take("scope") {
-        instruction.scope = number(tokens.next("a scope")?)?;
+        instruction.scope = tokens.number("a scope")?;
     }
     if tokens.take("on") {
         instruction.negate = tokens.take("not");
@@ -95,6 +85,12 @@ pub fn parse(text: &str) -> Result<Instruction, String> {
     Ok(instruction)
 }
 
+/// The words of a line, without the marks between them.
+pub fn tokens(line: &str) -> impl Iterator<Item = &str> {
+    let marks = |c: char| c.is_whitespace() || ",[]+".contains(c);
+    line.split(marks).filter(|token| !token.is_empty())
+}
+
 /// Reads the operands of the operation's form.
 fn operands(i: &mut Instruction, tokens: &mut Tokens) -> Result<(), String> {
     match i.operation.form() {
@@ -102,7 +98,7 @@ fn operands(i: &mut Instruction, tokens: &mut Tokens) -> Result<(), String> {
         Form::Comparison => i.rd = tokens.after('p', "a predicate")?,
         Form::Memory if stores(i.operation) => {
             i.rs1 = tokens.register()?;
-            i.number = number(tokens.next("an offset")?)?;
+            i.number = tokens.number("an offset")?;
             i.rd = tokens.register()?;
             return Ok(());
         }
@@ -110,11 +106,11 @@ fn operands(i: &mut Instruction, tokens: &mut Tokens) -> Result<(), String> {
     }
     match i.operation.form() {
         Form::Special => i.rs1 = special(tokens.next("a special number")?)?,
-        Form::Immediate => i.number = number(tokens.next("a number")?)?,
+        Form::Immediate => i.number = tokens.number("a number")?,
         _ => i.rs1 = tokens.register()?,
     }
     match i.operation.form() {
-        Form::Memory => i.number = number(tokens.next("an offset")?)?,
+        Form::Memory => i.number = tokens.number("an offset")?,
         Form::TwoSources | Form::Comparison | Form::Atomic => i.rs2 = tokens.register()?,
         Form::CompareAndSwap => {
             i.rs2 = tokens.register()?;
@@ -154,13 +150,17 @@ impl<'a> Tokens<'a> {
         found
     }
 
+    fn number(&mut self, expected: &str) -> Result<u32, String> {
+        numerals::parse(self.next(expected)?)
+    }
+
     /// The decimal number after this letter.
     fn after(&mut self, letter: char, expected: &str) -> Result<u32, String> {
         let token = self.next(expected)?;
-        let digits = token.strip_prefix(letter);
-        digits
-            .and_then(|digits| digits.parse().ok())
-            .ok_or(format!("expected {expected}, found '{token}'"))
+        let digits = token.strip_prefix(letter).unwrap_or_default();
+        let decimal = digits.bytes().all(|byte| byte.is_ascii_digit());
+        let number = digits.parse().ok().filter(|_| decimal);
+        number.ok_or(format!("expected {expected}, found '{token}'"))
     }
 
     fn register(&mut self) -> Result<u32, String> {

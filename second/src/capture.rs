@@ -21,6 +21,7 @@
 //! again, left for each block, outermost first.
 
 use crate::bytes;
+use crate::refusal::Refusal;
 use crate::run::{self, Answer, Settings};
 use crate::state::{Block, State};
 use crate::step::Lent;
@@ -33,12 +34,22 @@ const EDITION: u32 = 1;
 const HEADER: usize = 13;
 /// The header's first count.
 const COUNTS: usize = 7;
-/// The most words of code, registers, device memory, local memory and state (of depth 64).
-const ROOM: [usize; 5] = [65_537, 16_384, 262_144, 65_536, 391];
 /// The words of a state with no open block.
 const STATE_WORDS: usize = 7;
 /// The words of an open block.
 const BLOCK_WORDS: usize = 6;
+/// The most open blocks of a state that is read.
+pub const MOST_BLOCKS: usize = 64;
+/// The most words of code, registers, device memory (64 MiB), local memory (16 MiB) and state.
+pub const ROOM: [usize; 5] = [
+    65_537,
+    16_384,
+    16_777_216,
+    4_194_304,
+    STATE_WORDS + BLOCK_WORDS * MOST_BLOCKS,
+];
+/// What the words of each are called.
+const NAMES: [&str; 5] = ["code", "register", "device", "local", "state"];
 
 /// What a capture file holds. Nothing in it is checked.
 #[derive(Clone, Debug, PartialEq, Eq)]
@@ -57,7 +68,7 @@ pub struct Capture {
 #[derive(Clone, Debug, PartialEq, Eq)]
 pub struct Unreadable {
     pub place: usize,
-    pub expected: &'static str,
+    pub expected: String,
 }
 
 impl Capture {
@@ -75,6 +86,12 @@ impl Capture {
         };
         let state = self.state.as_ref();
         run::run_watched(self.settings, &self.code, state, &mut lent, watch)
+    }
+
+    /// The refusal that a launch, or a resume with the state, of it would give.
+    pub fn refusal(&self) -> Option<Refusal> {
+        let state = self.state.as_ref();
+        run::check(self.settings, &self.code, state, self.registers.len()).err()
     }
 
     /// The capture file's bytes.
@@ -127,7 +144,8 @@ impl Capture {
     }
 }
 
-fn wrong<T>(place: usize, expected: &'static str) -> Result<T, Unreadable> {
+fn wrong<T>(place: usize, expected: &str) -> Result<T, Unreadable> {
+    let expected = expected.to_string();
     Err(Unreadable { place, expected })
 }
 
@@ -150,7 +168,8 @@ fn counts(header: &[u32; HEADER]) -> Result<[usize; 5], Unreadable> {
     let counts: [usize; 5] = std::array::from_fn(|i| header[COUNTS + i] as usize);
     for (index, room) in ROOM.into_iter().enumerate() {
         if counts[index] > room {
-            return wrong(4 * (COUNTS + index), "a count that there is room for");
+            let expected = format!("at most {room} {} words", NAMES[index]);
+            return wrong(4 * (COUNTS + index), &expected);
         }
     }
     let blocks = counts[4].wrapping_sub(STATE_WORDS);

@@ -13,6 +13,7 @@ pub mod control;
 pub mod dayfile;
 pub mod key;
 pub mod listing;
+pub mod numerals;
 pub mod operations;
 pub mod refusal;
 pub mod report;

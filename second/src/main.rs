@@ -7,12 +7,12 @@ use second::cases::commands as cases;
 use second::commands;
 
 const HELP: &str = "\
-second pack TEXT FILE            packs a readable capture into a file
+second pack [--any] TEXT FILE    packs a readable capture into a file; --any: one that is refused, too
 second show FILE                 prints a capture file as readable text
 second replay FILE [OUT] [KEY]   replays a capture: a report, the end state, a fault's key
 second cases SEED COUNT          writes random cases; SEED is a number or new
 second cases named               writes the runs that have a name
-second cases stored              writes those, then 450 random cases of seed 256
+second cases stored              writes those, then 450 random cases of seed 93
 second names                     prints the numbers and names of the named runs
 second answers                   answers the cases on standard input
 second compare CASES ANSWERS     compares another program's answers with its own
@@ -23,7 +23,7 @@ second against SEED COUNT PROGRAM [ARGUMENT..]
                                  hands random cases to a program and compares its answers
 second bench                     prints the time per step of two interpreters
 second bench files PROGRAM [ARGUMENT..]
-                                 and of a program that takes CAPTURE OUT, as second replay does
+                                 and of a program that takes CAPTURE OUT KEY, as second replay does
 second bench cases PROGRAM [ARGUMENT..]
                                  and of a program that answers cases, as second answers does
 second kernels FOLDER BUDGET     writes the captures of the timed kernels
@@ -33,7 +33,8 @@ fn main() -> ExitCode {
     let arguments: Vec<String> = std::env::args().skip(1).collect();
     let given: Vec<&str> = arguments.iter().map(String::as_str).collect();
     let done = match given[..] {
-        ["pack", text, file] => commands::pack(text, file),
+        ["pack", text, file] => commands::pack(text, file, false),
+        ["pack", "--any", text, file] => commands::pack(text, file, true),
         ["show", file] => commands::show(file),
         ["replay", file] => commands::replay(file, None, None),
         ["replay", file, out] => commands::replay(file, Some(out), None),

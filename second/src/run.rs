@@ -72,7 +72,7 @@ pub fn run_watched(
 }
 
 /// Tests 1 to 3, then 4 to 10, then 11.
-fn check(
+pub fn check(
     settings: Settings,
     code: &[u32],
     state: Option<&State>,

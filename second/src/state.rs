@@ -104,7 +104,7 @@ impl State {
             Some(Misfit::Stranger)
         } else if self.blocks.iter().any(|b| b.part != LOOP && b.again != 0) {
             Some(Misfit::Again)
-        } else if !self.each_in_exactly_one(launched) {
+        } else if self.misplaced(launched) != 0 {
             Some(Misfit::Lane)
         } else if !self.entered_sets_agree() {
             Some(Misfit::Entered)
@@ -114,7 +114,7 @@ impl State {
     }
 
     /// The part and opener of each block.
-    fn open(&self) -> Vec<Open> {
+    pub fn open(&self) -> Vec<Open> {
         let shape = |block: &Block| Open {
             part: block.part,
             opener: block.opener,
@@ -123,7 +123,7 @@ impl State {
     }
 
     /// Every lane that is in any set of the state.
-    fn every_lane(&self) -> Lanes {
+    pub fn every_lane(&self) -> Lanes {
         let [p1, p2, p3] = self.predicates;
         self.blocks
             .iter()
@@ -133,14 +133,16 @@ impl State {
             })
     }
 
-    /// Whether each launched lane is in exactly one of active, halted, or one block's aside or again.
-    fn each_in_exactly_one(&self, launched: Lanes) -> bool {
+    /// The launched lanes that aren't in exactly one of active, halted, or one block's aside or again.
+    pub fn misplaced(&self, launched: Lanes) -> Lanes {
         let mut sets = vec![self.active, self.halted];
         for block in &self.blocks {
             sets.push(block.aside);
             sets.push(block.again);
         }
-        each_lane(launched).all(|lane| sets.iter().filter(|set| *set >> lane & 1 == 1).count() == 1)
+        let count = |lane: usize| sets.iter().filter(|set| *set >> lane & 1 == 1).count();
+        let misplaced = each_lane(launched).filter(|lane| count(*lane) != 1);
+        misplaced.fold(0, |lanes, lane| lanes | 1 << lane)
     }
 
     /// Whether each block's entered set is the disjoint union of its left set, the active lanes and

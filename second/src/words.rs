@@ -77,7 +77,7 @@ impl Instruction {
 }
 
 /// The operation of a first word, if the desk carries its opcode with this modifier.
-fn operation_of(word0: u32) -> Option<Operation> {
+pub fn operation_of(word0: u32) -> Option<Operation> {
     Operation::with_number((word0 >> 24) << 4 | (word0 >> 4 & 15))
 }
 

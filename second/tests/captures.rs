@@ -23,18 +23,22 @@ fn samples() -> Vec<PathBuf> {
 fn sample(name: &str) -> Capture {
     let path = samples().into_iter().find(|path| path.ends_with(name));
     let text = fs::read_to_string(path.expect("the sample")).expect("its text");
-    text::parse(&text).expect("a capture")
+    text::read(&text).expect("a capture").capture
 }
 
 #[test]
 fn each_packed_sample_is_what_its_text_packs_to() {
     assert!(samples().len() >= 8);
     for path in samples() {
-        let capture = text::parse(&fs::read_to_string(&path).expect("text")).expect("a capture");
+        let read = text::read(&fs::read_to_string(&path).expect("text")).expect("a capture");
+        let capture = read.capture;
+        assert_eq!(read.doubtful, [], "{path:?}");
         let packed = fs::read(path.with_extension("cap")).expect("the packed file");
         assert_eq!(capture.write(), packed, "{path:?}");
         assert_eq!(Capture::read(&packed), Ok(capture.clone()), "{path:?}");
-        assert_eq!(text::parse(&text::print(&capture)), Ok(capture), "{path:?}");
+        let again = text::read(&text::print(&capture)).expect("a capture");
+        assert_eq!(again.capture, capture, "{path:?}");
+        assert_eq!(again.doubtful, [], "{path:?}");
     }
 }
 
@@ -45,11 +49,7 @@ fn each_sample_gives_its_report() {
         let mut capture = Capture::read(&file).expect("a capture");
         let answer = capture.run();
         let expected = fs::read_to_string(path.with_extension("report")).expect("the report");
-        assert_eq!(
-            report::report(capture.kernel, &answer),
-            expected,
-            "{path:?}"
-        );
+        assert_eq!(report::report(&capture, &answer), expected, "{path:?}");
     }
 }
 
@@ -95,6 +95,14 @@ fn error(change: impl Fn(&mut Vec<u8>)) -> usize {
 }
 
 #[test]
+fn a_count_past_the_room_says_the_room() {
+    let mut file = sample("collatz-stopped.txt").write();
+    file[36..40].copy_from_slice(&16_777_217u32.to_le_bytes());
+    let expected = Capture::read(&file).expect_err("no capture").expected;
+    assert_eq!(expected, "at most 16777216 device words");
+}
+
+#[test]
 fn files_of_another_shape_are_said_so_with_the_place() {
     let length = sample("collatz-stopped.txt").write().len();
     let set = |at: usize, byte: u8| error(|file| file[at] = byte);
@@ -115,28 +123,4 @@ fn files_of_another_shape_are_said_so_with_the_place() {
     assert_eq!(set(44, 13), length - 24, "too long by a block");
     let depth_at = length - 4 * (7 + 12) + 24;
     assert_eq!(set(depth_at, 1), depth_at, "another depth");
-}
-
-#[test]
-fn lines_that_are_wrong_are_said_so() {
-    let head = "kernel 1\nwidth 8\nregisters 1\nlanes 1\nbudget 1\n";
-    let error = |rest: &str| text::parse(&format!("{head}{rest}")).expect_err("an error");
-    assert!(text::parse("width 8").is_err());
-    assert!(error("code\nFROB r1\n").contains("line 7: expected an instruction's name"));
-    assert!(error("code\nADD r1, r2\n").contains("line 7: expected a register"));
-    assert!(error("code\nIF\n").contains("line 7: expected an instruction that words give"));
-    assert!(error("code\nNOP NOP\n").contains("line 7: expected the line's end"));
-    assert!(error("device words\n1 x\n").contains("line 7: expected a number"));
-    assert!(error("device words\ncode\n").contains("line 7: 'code' stands too late"));
-    assert!(error("state\nplace 1\n").contains("expected 7 lines for the state"));
-}
-
-#[test]
-fn numbers_of_eight_digits_are_hexadecimal() {
-    let number = second::assembly::number;
-    assert_eq!(number("10"), Ok(10));
-    assert_eq!(number("00000010"), Ok(16));
-    assert_eq!(number("1000000000"), Ok(1_000_000_000));
-    assert!(number("1F").is_err());
-    assert!(number("").is_err());
 }

@@ -1,5 +1,6 @@
 //! The random cases: their format, what they reach, and what every run they make keeps to.
 
+use second::assembly;
 use second::bench::decoded;
 use second::bytes;
 use second::capture::Capture;
@@ -9,8 +10,10 @@ use second::cases::format;
 use second::cases::make;
 use second::cases::reached::Reached;
 use second::cases::{Case, random::Random};
+use second::operations::Operation;
 use second::run::Outcome;
 use second::text;
+use second::words::Instruction;
 
 fn cases(seed: u64, count: u64) -> Vec<Case> {
     (1..=count).map(|number| make::case(seed, number)).collect()
@@ -50,6 +53,7 @@ fn cases_keep_to_their_bounds() {
             Case::File { file, .. } | Case::Listing { file } => assert!(file.len() <= 66_000),
             Case::Read { words } => assert!(words.len() <= 4),
             Case::Write { room, .. } => assert!(room <= 4),
+            Case::Text { room, .. } => assert!(room <= 60),
         }
     }
 }
@@ -143,6 +147,47 @@ fn the_decoding_interpreter_gives_the_same() {
 fn captures_are_packed_and_shown_and_packed_again() {
     for capture in captures(17, 600) {
         assert_eq!(Capture::read(&capture.write()), Ok(capture.clone()));
-        assert_eq!(text::parse(&text::print(&capture)), Ok(capture));
+        let read = text::read(&text::print(&capture)).expect("a capture");
+        assert_eq!(read.capture, capture);
+        assert_eq!(read.doubtful, []);
     }
+}
+
+#[test]
+fn texts_are_asked_for_with_every_room() {
+    let mut rooms = [false; 61];
+    let (mut short, mut exact) = (0, 0);
+    for case in cases(19, 20_000) {
+        if let Case::Text { instruction, room } = case {
+            rooms[room] = true;
+            let length = assembly::write(&instruction, &mut [0; 60]);
+            short += u32::from(length.is_ok_and(|length| room + 1 == length));
+            exact += u32::from(length == Ok(room));
+        }
+    }
+    assert!(rooms.iter().all(|reached| *reached), "{rooms:?}");
+    assert!(short > 50 && exact > 50);
+}
+
+#[test]
+fn a_text_is_answered_as_the_format_says() {
+    let mut instruction = Instruction::plain(Operation::Mov);
+    (instruction.rd, instruction.rs1) = (1, 2);
+    let numbers = |instruction: Instruction, room: usize| {
+        let case = Case::Text { instruction, room };
+        let file = case.write();
+        assert_eq!(bytes::to_numbers(&file)[..2], [8, 10]);
+        assert_eq!(format::read_all(&file), Ok(vec![case.clone()]));
+        answer(&case, &mut Reached::default()).write()
+    };
+    let length = |number: u8| [[0; 8].as_slice(), &[number, 0, 0, 0]].concat();
+    let text = b"MOV r1, r2\xA5\xA5\xA5\0\0\0";
+    assert_eq!(numbers(instruction, 13), [&length(10)[..], text].concat());
+    let text = b"MOV r1, r2\0\0";
+    assert_eq!(numbers(instruction, 10), [&length(10)[..], text].concat());
+    let refused = |number: u8| [&[number][..], &[0; 11]].concat();
+    let lent = [&[0xA5; 9][..], &[0; 3]].concat();
+    assert_eq!(numbers(instruction, 9), [&refused(13)[..], &lent].concat());
+    instruction.scope = 1;
+    assert_eq!(numbers(instruction, 0), refused(12));
 }

@@ -1,10 +1,15 @@
-// Cases about one instruction: reading it, writing it. Each answers how many bytes its answer has, none where a case has more words or
+// Cases about one instruction: reading it, writing it, its text. Each answers how many bytes its answer has, none where a case has more words or
 // room than there is here.
+use crate::format::LENGTH_BYTES;
 use crate::format::LENT_WORD;
 use crate::format::give_length;
+use crate::format::give_padding;
 use crate::format::give_words;
+use crate::format::mark;
 use crate::format::number;
 use crate::format::take_words;
+use naming::TextAnswer;
+use naming::write_text;
 use words::instr::Guard;
 use words::instr::Instr;
 use words::instr::Op;
@@ -139,4 +144,33 @@ pub(crate) fn answer_write(case: &[u8], out: &mut [u8]) -> usize {
         return write_words(case, op, &mut room[..count], out);
     }
     0
+}
+
+// Writes the text of an instruction in a room of A5.
+fn text_in(instr: Instr, room: &mut [u8]) -> TextAnswer {
+    mark(room);
+    write_text(instr, room)
+}
+
+// What writing a text answered.
+fn give_text(out: &mut [u8], wrote: TextAnswer) -> usize {
+    match wrote {
+        TextAnswer::Wrote { bytes: n } => give_length(out, 0, 0, 0, n),
+        TextAnswer::Refused { number, place } => give_length(out, 0, number, place, 0),
+    }
+}
+
+// The text of a case's instruction. The bytes of the room that it is written in are part of the answer.
+pub(crate) fn answer_text(case: &[u8], out: &mut [u8]) -> usize {
+    let operation = number(case, 0);
+    let FoundOp::Carried(op) = op_of(operation / 16, operation % 16) else {
+        return 0;
+    };
+    let end = LENGTH_BYTES + number(case, 9) as usize;
+    if out.len() < end {
+        return 0;
+    }
+    let wrote = text_in(instruction_of(case, op), &mut out[LENGTH_BYTES..end]);
+    give_text(out, wrote);
+    give_padding(out, end)
 }

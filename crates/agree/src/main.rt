@@ -22,6 +22,7 @@ fn answer(kind: u32, case: &[u8], out: &mut [u8]) -> usize {
         5 => days::answer_make(case, out),
         6 => days::answer_read(case, out),
         7 => days::answer_list(case, out),
+        8 => instructions::answer_text(case, out),
         _ => 0,
     }
 }

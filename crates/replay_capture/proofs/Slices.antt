@@ -36,7 +36,7 @@ use Rattle.replay.specs.Calls.{budgeted, resumedWith, added}
 use Rattle.replay.proofs.Runs.{at-ended, at-budget, at-fault, at-clear}
 use Rattle.replay.proofs.Adding.{following, runs-add}
 use Rattle.replay.proofs.Returns.{run-budgeted, launch-adds, resume-adds}
-use Rattle.replay_capture.specs.Starting.{startOf, stopped, slice, goneOn, finished}
+use Rattle.replay_capture.specs.Starting.{startOf, stopped, goneOn, finished}
 
 -- ---- a run makes no more steps than its budget
 module _ (s : Settings) (code : List ℕ) where
@@ -191,10 +191,10 @@ pub record Going (s : Settings) (code : List ℕ) (whole : Answered) (left : ℕ
   pub few : x .steps + left ≤ mostSteps
 
 -- the first slice
-pub begun : {s t : Settings} {code : List ℕ} {first : ℕ} {x : Answered} (l : Bool) (state : State) (regs device local : List ℕ)
+pub begun : {s t : Settings} {code : List ℕ} {first : ℕ} {x : Answered} (slice : ℕ) (l : Bool) (state : State) (regs device local : List ℕ)
     → s .budget ≤ mostSteps → first ≡ min (s .budget) slice → t ≡ budgeted first s → x ≡ startOf l t state code regs device local
     → Going s code (startOf l s state code regs device local) (s .budget - first) x
-begun {s} {t} {code} {first} {x} l state regs device local most f e h =
+begun {s} {t} {code} {first} {x} slice l state regs device local most f e h =
     let sum : first + (s .budget - first) ≡ s .budget = omega arith in
     let y : x ≡ startOf l (budgeted first s) state code regs device local = rw e at h in
     record {
@@ -204,10 +204,10 @@ begun {s} {t} {code} {first} {x} l state regs device local most f e h =
 
 module _ {s : Settings} {code : List ℕ} {whole : Answered} {left : ℕ} {x : Answered} (g : Going s code whole left x) where
   -- one slice more
-  pub gone-further : {t : Settings} {c : ℕ} {y : Answered} → stopped (x .outcome) ≡ true → 0 < left → c ≡ min left slice
+  pub gone-further : {t : Settings} {c : ℕ} {y : Answered} (slice : ℕ) → stopped (x .outcome) ≡ true → 0 < left → 0 < slice → c ≡ min left slice
       → t ≡ budgeted c s → y ≡ added (x .steps) (resumeOf t (x .state) code (x .regs) (x .memories .device) (x .memories .local))
       → Going s code whole (left - c) y
-  gone-further {t} {c} {y} h some f e d =
+  gone-further {t} {c} {y} slice h some more f e d =
       let sum : c + (left - c) ≡ left = omega arith in
       let z : y ≡ added (x .steps) (resumedWith c s code x) = rw e at d in
       record {

@@ -20,10 +20,6 @@ stopped Outcome.Ended = false
 stopped (Outcome.Fault f) = false
 stopped (Outcome.Refused number place) = false
 
--- the steps of a slice
-abbrev pub slice : ℕ
-slice = 20000000
-
 -- what was answered, gone on from with b steps more where the budget was spent
 unfoldable pub goneOn : Bool → Settings → List ℕ → ℕ → Answered → Answered
 goneOn true s code b x = added (x .steps) (resumedWith b s code x)

@@ -1,111 +1,68 @@
 // A capture's words replayed, and what is told and kept of it.
-use crate::report::say_key;
-use crate::report::say_report;
+use crate::keeping::KEY;
+use crate::keeping::keep_state;
+use crate::keeping::save_as;
+use crate::report::put_key;
+use crate::report::put_report;
 use crate::running::run;
-use crate::saving::save;
+use crate::text::write_front;
 use captures::answer::Counts;
 use captures::answer::Head;
-use captures::answer::WriteAnswer;
 use keys::answer::KeyAnswer;
 use keys::write_key;
+use libc::STDOUT_FILENO;
 use packing::state_of;
-use packing::word_count;
-use packing::words_of;
-use replay::answers::Outcome;
 use replay::answers::Replayed;
 use replay::settings::Settings;
 ghost use mathlib.Core.Path.{_≡_};
 ghost use Prim.Native.Nat.{min};
 
-// The bytes of the longest body.
+// The bytes of the longest body, and more than those of the longest report.
 const BODY_ROOM: usize = 808;
 
-// Where the names of the files to write stand among the arguments.
-const OUT: usize = 2;
+const REPORT_ROOM: usize = 8192;
 
-const KEY: usize = 3;
-
-// Writes a file of these bytes under the name that argument i gives, where there is one.
-fn save_as(i: usize, bytes: &[u8]) {
-    if i < os::arg_count() {
-        let mut path = io::buffer();
-        let n = os::arg(i, &mut path);
-        save(&path[..n], bytes);
+// Writes the first n bytes of a report to standard output.
+fn tell_text(report: &[u8], n: usize) {
+    if !write_front(STDOUT_FILENO, report, n) {
+        os::fail(b"standard output");
     }
 }
 
 // Tells of a fault: its body goes to its file, then the report to standard output.
-fn tell_fault(answer: Replayed, body: &[u8]) {
+fn tell_fault(answer: Replayed, code: &[u32], body: &[u8]) {
     save_as(KEY, body);
-    say_report(answer);
-    say_key(body);
+    let mut report = [0u8; REPORT_ROOM];
+    let q = put_report(&mut report, answer, code);
+    let n = put_key(&mut report, q, body);
+    tell_text(&report, n);
+}
+
+// Tells of a run that gives no key.
+fn tell_end(answer: Replayed, code: &[u32]) {
+    let mut report = [0u8; REPORT_ROOM];
+    let n = put_report(&mut report, answer, code);
+    tell_text(&report, n);
 }
 
 // Tells of what a replay answered; only a fault has a key.
-fn tell(kernel: u32, answer: Replayed) {
+fn tell(kernel: u32, answer: Replayed, code: &[u32]) {
     let mut body = [0u8; BODY_ROOM];
     let written = write_key(kernel, answer, &mut body);
     match written {
         KeyAnswer::Wrote(n) => {
             if n <= BODY_ROOM {
-                tell_fault(answer, &body[..n]);
+                tell_fault(answer, code, &body[..n]);
             }
         }
-        KeyAnswer::Refused(number, place) => say_report(answer),
+        KeyAnswer::Refused(number, place) => tell_end(answer, code),
     }
-}
-
-// Whether a run was refused.
-fn is_refused(outcome: Outcome) -> bool {
-    match outcome {
-        Outcome::Ended => false,
-        Outcome::OutOfBudget => false,
-        Outcome::Fault(f) => false,
-        Outcome::Refused { number, place } => true,
-    }
-}
-
-// Writes the capture of these words, made in `file`.
-fn keep_words(
-    head: Head,
-    code: &[u32],
-    regs: &[u32],
-    device: &[u32],
-    local: &[u32],
-    state: &[u32],
-    file: &mut [u8],
-) {
-    let written = captures::write(head, code, regs, device, local, state, file);
-    if let WriteAnswer::Wrote(n) = written {
-        if n <= file.len() {
-            save_as(OUT, &file[..n]);
-        }
-    }
-}
-
-// Writes the end state as a capture, with the same settings and code. A refused run writes none.
-fn keep_state(
-    head: Head,
-    answer: Replayed,
-    code: &[u32],
-    regs: &[u32],
-    device: &[u32],
-    local: &[u32],
-    file: &mut [u8],
-) {
-    let outcome = answer.outcome;
-    if is_refused(outcome) {
-        return;
-    }
-    let state = answer.state;
-    let words = words_of(state);
-    let n = word_count(state.hot.depth);
-    keep_words(head, code, regs, device, local, &words[..n], file);
 }
 
 // Replays a capture's words: what is kept of it, then the report, so that a reader who stops reading loses no file.
 fn replay_words(
     head: Head,
+    sliced: bool,
     code: &[u32],
     regs: &mut [u32],
     device: &mut [u32],
@@ -124,13 +81,16 @@ fn replay_words(
         settings,
         launched,
         state_of(state),
+        head,
+        sliced,
         code,
         regs,
         device,
         local,
+        file,
     );
     keep_state(head, answer, code, regs, device, local, file);
-    tell(head.kernel, answer);
+    tell(head.kernel, answer, code);
 }
 
 // The smaller of two counts.
@@ -144,6 +104,7 @@ fn least(a: usize, b: usize) -> usize
 pub(crate) fn replay_counted(
     head: Head,
     counts: Counts,
+    sliced: bool,
     code: &[u32],
     regs: &mut [u32],
     device: &mut [u32],
@@ -158,6 +119,7 @@ pub(crate) fn replay_counted(
     let s = least(counts.state, state.len());
     replay_words(
         head,
+        sliced,
         &code[..c],
         &mut regs[..r],
         &mut device[..d],

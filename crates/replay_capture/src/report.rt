@@ -1,7 +1,13 @@
-// The report of a replay on standard output, in plain lines, each beginning with its word.
+// The report of a replay, in plain lines, each beginning with its word. Each function puts its lines into a lent buffer and answers the
+// place behind them.
+use crate::text::put;
+use crate::text::put_decimal;
+use crate::text::put_number;
 use compute::Faults;
 use lanes::Lanes;
-use libc::STDOUT_FILENO;
+use naming::TEXT_ROOM;
+use naming::TextAnswer;
+use naming::write_text;
 use replay::answers::Outcome;
 use replay::answers::Replayed;
 use wave::state::AGAIN;
@@ -14,17 +20,12 @@ use wave::state::OPENER;
 use wave::state::State;
 use wave::state::depth_of;
 use wave::state::whole;
+use words::instr::Instr;
+use words::reading::ReadAnswer;
+use words::reading::read_at;
 
-fn say(text: &[u8]) {
-    io::write_all(STDOUT_FILENO, text);
-}
-
-// A line of its word and a number.
-fn say_number(word: &[u8], n: usize) {
-    say(word);
-    io::print_decimal(STDOUT_FILENO, n as u64);
-    say(b"\n");
-}
+// Where no instruction stands.
+const NOWHERE: usize = usize::MAX;
 
 // The digit of a number below 16; of a larger one, that of its last.
 fn digit(n: u32) -> u8 {
@@ -33,8 +34,10 @@ fn digit(n: u32) -> u8 {
 }
 
 // A set of lanes in eight digits.
-fn say_lanes(lanes: Lanes) {
-    say(
+fn put_lanes(out: &mut [u8], at: usize, lanes: Lanes) -> usize {
+    put(
+        out,
+        at,
         &[
             digit(lanes >> 28),
             digit(lanes >> 24),
@@ -45,55 +48,74 @@ fn say_lanes(lanes: Lanes) {
             digit(lanes >> 4),
             digit(lanes),
         ],
-    );
+    )
 }
 
 // A line of its word and a set of lanes.
-fn say_set(word: &[u8], lanes: Lanes) {
-    say(word);
-    say_lanes(lanes);
-    say(b"\n");
+fn put_set(out: &mut [u8], at: usize, word: &[u8], lanes: Lanes) -> usize {
+    let q = put(out, at, word);
+    let q = put_lanes(out, q, lanes);
+    put(out, q, b"\n")
 }
 
 // The line of a fault kind, where it has lanes.
-fn say_kind(word: &[u8], lanes: Lanes) {
-    if lanes != 0 {
-        say_set(word, lanes);
+fn put_kind(out: &mut [u8], at: usize, word: &[u8], lanes: Lanes) -> usize {
+    if lanes == 0 {
+        return at;
     }
+    put_set(out, at, word, lanes)
 }
 
 // The kinds of a fault in rising order.
-fn say_kinds(f: Faults) {
-    say_kind(b"kind 1 lanes ", f.odd);
-    say_kind(b"kind 2 lanes ", f.device);
-    say_kind(b"kind 3 lanes ", f.local);
-    say_kind(b"kind 4 lanes ", f.divisor);
-    say_kind(b"kind 5 lanes ", f.barrier);
+fn put_kinds(out: &mut [u8], at: usize, f: Faults) -> usize {
+    let q = put_kind(out, at, b"kind 1 lanes ", f.odd);
+    let q = put_kind(out, q, b"kind 2 lanes ", f.device);
+    let q = put_kind(out, q, b"kind 3 lanes ", f.local);
+    let q = put_kind(out, q, b"kind 4 lanes ", f.divisor);
+    put_kind(out, q, b"kind 5 lanes ", f.barrier)
+}
+
+// A word and a number, or a space and a set of lanes.
+fn put_count(out: &mut [u8], at: usize, word: &[u8], n: u32) -> usize {
+    let q = put(out, at, word);
+    put_decimal(out, q, n as usize)
+}
+
+fn put_next(out: &mut [u8], at: usize, lanes: Lanes) -> usize {
+    let q = put(out, at, b" ");
+    put_lanes(out, q, lanes)
 }
 
 // The line of an open block: its part, its opener, and the lanes entered, aside, again and left.
-fn say_block(part: u32, opener: u32, entered: Lanes, aside: Lanes, again: Lanes, left: Lanes) {
-    say(b"block ");
-    io::print_decimal(STDOUT_FILENO, part as u64);
-    say(b" ");
-    io::print_decimal(STDOUT_FILENO, opener as u64);
-    say(b" ");
-    say_lanes(entered);
-    say(b" ");
-    say_lanes(aside);
-    say(b" ");
-    say_lanes(again);
-    say_set(b" ", left);
+fn put_block(
+    out: &mut [u8],
+    at: usize,
+    part: u32,
+    opener: u32,
+    entered: Lanes,
+    aside: Lanes,
+    again: Lanes,
+    left: Lanes,
+) -> usize {
+    let q = put_count(out, at, b"block ", part);
+    let q = put_count(out, q, b" ", opener);
+    let q = put_next(out, q, entered);
+    let q = put_next(out, q, aside);
+    let q = put_next(out, q, again);
+    put_set(out, q, b" ", left)
 }
 
 // The open blocks, outermost first, at most as many as a state has room for.
-fn say_blocks(state: State) {
+fn put_blocks(out: &mut [u8], at: usize, state: State) -> usize {
     let blocks = state.blocks;
     whole(&blocks);
     let open = BLOCK_NUMBERS * (depth_of(state.hot.depth) as usize);
+    let mut q = at;
     let mut k: usize = 0;
     while k + LEFT < open {
-        say_block(
+        q = put_block(
+            out,
+            q,
             blocks[k],
             blocks[k + OPENER],
             blocks[k + ENTERED],
@@ -103,23 +125,76 @@ fn say_blocks(state: State) {
         );
         k += BLOCK_NUMBERS;
     }
+    q
 }
 
-// Place, sets and depth are the state's; the fault kinds stand behind the place.
-fn say_state(h: Hot, f: Faults) {
-    say_number(b"place ", h.place as usize);
-    say_kinds(f);
-    say_set(b"active ", h.active);
-    say_set(b"halted ", h.halted);
-    say_set(b"p1 ", h.p1);
-    say_set(b"p2 ", h.p2);
-    say_set(b"p3 ", h.p3);
-    say_number(b"depth ", h.depth as usize);
+// The line of an instruction's text.
+fn put_text(out: &mut [u8], at: usize, instr: Instr) -> usize {
+    let mut text = [0u8; TEXT_ROOM];
+    match write_text(instr, &mut text) {
+        TextAnswer::Wrote { bytes: n } => {
+            if n <= TEXT_ROOM {
+                let q = put(out, at, b"instruction ");
+                let q = put(out, q, &text[..n]);
+                return put(out, q, b"\n");
+            }
+            at
+        }
+        TextAnswer::Refused { number, place } => at,
+    }
 }
 
-// The outcome's line, and the lanes of each fault kind.
-fn say_outcome(outcome: Outcome) -> Faults {
-    let mut faults = Faults {
+// The line of the instruction at a place of the code, where one stands there.
+fn put_instruction(out: &mut [u8], at: usize, code: &[u32], place: usize) -> usize {
+    match read_at(code, place) {
+        ReadAnswer::Read { instr, words } => put_text(out, at, instr),
+        ReadAnswer::Refused { number, place } => at,
+    }
+}
+
+// The place of the instruction that is told of: the state's, or that of a refusal by a rule about one instruction, 7 to 10.
+fn told_place(outcome: Outcome, h: Hot) -> usize {
+    match outcome {
+        Outcome::Ended => h.place as usize,
+        Outcome::OutOfBudget => h.place as usize,
+        Outcome::Fault(f) => h.place as usize,
+        Outcome::Refused { number, place } => {
+            if (7 <= number) & (number <= 10) {
+                place
+            } else {
+                NOWHERE
+            }
+        }
+    }
+}
+
+// The sets and the depth of a state.
+fn put_sets(out: &mut [u8], at: usize, h: Hot) -> usize {
+    let q = put_set(out, at, b"active ", h.active);
+    let q = put_set(out, q, b"halted ", h.halted);
+    let q = put_set(out, q, b"p1 ", h.p1);
+    let q = put_set(out, q, b"p2 ", h.p2);
+    let q = put_set(out, q, b"p3 ", h.p3);
+    put_number(out, q, b"depth ", h.depth as usize)
+}
+
+// The outcome's line.
+fn put_outcome(out: &mut [u8], at: usize, outcome: Outcome) -> usize {
+    match outcome {
+        Outcome::Ended => put(out, at, b"outcome ended\n"),
+        Outcome::OutOfBudget => put(out, at, b"outcome out of budget\n"),
+        Outcome::Fault(f) => put(out, at, b"outcome fault\n"),
+        Outcome::Refused { number, place } => {
+            let q = put(out, at, b"outcome refused ");
+            let q = put_decimal(out, q, number as usize);
+            put_number(out, q, b" place ", place)
+        }
+    }
+}
+
+// The lanes of each fault kind.
+fn faults_of(outcome: Outcome) -> Faults {
+    let none = Faults {
         odd: 0,
         device: 0,
         local: 0,
@@ -127,44 +202,47 @@ fn say_outcome(outcome: Outcome) -> Faults {
         barrier: 0,
     };
     match outcome {
-        Outcome::Ended => say(b"outcome ended\n"),
-        Outcome::OutOfBudget => say(b"outcome out of budget\n"),
-        Outcome::Fault(f) => {
-            say(b"outcome fault\n");
-            faults = f;
-        }
-        Outcome::Refused { number, place } => {
-            say(b"outcome refused ");
-            io::print_decimal(STDOUT_FILENO, number as u64);
-            say_number(b" place ", place);
-        }
+        Outcome::Ended => none,
+        Outcome::OutOfBudget => none,
+        Outcome::Fault(f) => f,
+        Outcome::Refused { number, place } => none,
     }
-    faults
 }
 
-// The report of what a replay answered, but for the key.
-pub(crate) fn say_report(answer: Replayed) {
+// The outcome, the steps, the place, and the instruction that is told of.
+fn put_front(out: &mut [u8], answer: Replayed, code: &[u32]) -> usize {
+    let outcome = answer.outcome;
+    let h = answer.state.hot;
+    let q = put_outcome(out, 0, outcome);
+    let q = put_number(out, q, b"steps ", answer.steps as usize);
+    let q = put_number(out, q, b"place ", h.place as usize);
+    put_instruction(out, q, code, told_place(outcome, h))
+}
+
+// The report of what a replay answered, but for the key. Place, sets and depth are the state's; the instruction and the fault kinds stand
+// behind the place.
+pub(crate) fn put_report(out: &mut [u8], answer: Replayed, code: &[u32]) -> usize {
     let outcome = answer.outcome;
     let state = answer.state;
-    let faults = say_outcome(outcome);
-    say_number(b"steps ", answer.steps as usize);
-    say_state(state.hot, faults);
-    say_blocks(state);
+    let q = put_front(out, answer, code);
+    let q = put_kinds(out, q, faults_of(outcome));
+    let q = put_sets(out, q, state.hot);
+    put_blocks(out, q, state)
 }
 
 // A byte in two digits.
-fn say_byte(byte: u8) {
+fn put_byte(out: &mut [u8], at: usize, byte: u8) -> usize {
     let n = byte as u32;
-    say(&[digit(n >> 4), digit(n)]);
+    put(out, at, &[digit(n >> 4), digit(n)])
 }
 
 // The line of a fault's key, its bytes in two digits each.
-pub(crate) fn say_key(body: &[u8]) {
-    say(b"key ");
+pub(crate) fn put_key(out: &mut [u8], at: usize, body: &[u8]) -> usize {
+    let mut q = put(out, at, b"key ");
     let mut k: usize = 0;
     while k < body.len() {
-        say_byte(body[k]);
+        q = put_byte(out, q, body[k]);
         k += 1;
     }
-    say(b"\n");
+    put(out, q, b"\n")
 }

@@ -1,4 +1,5 @@
-// Room for a capture and its words. Each `ensures` gives only the length, which lending the array as a slice needs.
+// Room for a capture and its words, in two sizes: most captures are small, and don't pay for large rooms. Each `ensures` gives only the
+// length, which lending the array as a slice needs.
 ghost use mathlib.Core.Path.{_≡_};
 ghost use lib.ListN.{length};
 
@@ -7,24 +8,49 @@ pub(crate) const CODE_ROOM: usize = 65_537;
 
 pub(crate) const REGISTER_ROOM: usize = 16_384;
 
-pub(crate) const DEVICE_ROOM: usize = 262_144;
-
-pub(crate) const LOCAL_ROOM: usize = 65_536;
-
 // The words of a state of depth 64; one of more than 32 blocks is refused by the run.
 pub(crate) const STATE_ROOM: usize = 391;
 
-// The bytes of the largest capture that there is room for, and one more, so that a longer file shows.
-pub(crate) const FILE_ROOM: usize = 1_640_021;
+// The words of memory in the small rooms, and in the large ones: 64 MiB of device memory and 16 MiB of local memory.
+pub(crate) const SMALL_DEVICE: usize = 262_144;
 
-pub(crate) fn file_room() -> [u8; FILE_ROOM]
+pub(crate) const SMALL_LOCAL: usize = 65_536;
+
+pub(crate) const LARGE_DEVICE: usize = 16_777_216;
+
+pub(crate) const LARGE_LOCAL: usize = 4_194_304;
+
+// The bytes of the largest capture that each size has room for, and one more, so that a longer file shows.
+pub(crate) const SMALL_FILE: usize = 1_640_021;
+
+pub(crate) const LARGE_FILE: usize = 84_215_381;
+
+pub(crate) fn small_file() -> [u8; SMALL_FILE]
     ensures { λ r. ⌜ 1640021 ≡ length r ⌝ }
 {
-    [0; FILE_ROOM]
+    [0; SMALL_FILE]
 }
 
-pub(crate) fn device_room() -> [u32; DEVICE_ROOM]
+pub(crate) fn small_device() -> [u32; SMALL_DEVICE]
     ensures { λ r. ⌜ 262144 ≡ length r ⌝ }
 {
-    [0; DEVICE_ROOM]
+    [0; SMALL_DEVICE]
+}
+
+pub(crate) fn large_file() -> [u8; LARGE_FILE]
+    ensures { λ r. ⌜ 84215381 ≡ length r ⌝ }
+{
+    [0; LARGE_FILE]
+}
+
+pub(crate) fn large_device() -> [u32; LARGE_DEVICE]
+    ensures { λ r. ⌜ 16777216 ≡ length r ⌝ }
+{
+    [0; LARGE_DEVICE]
+}
+
+pub(crate) fn large_local() -> [u32; LARGE_LOCAL]
+    ensures { λ r. ⌜ 4194304 ≡ length r ⌝ }
+{
+    [0; LARGE_LOCAL]
 }

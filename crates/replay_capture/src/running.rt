@@ -1,4 +1,8 @@
 // Running a capture to its end, in one call or in slices.
+use crate::keeping::keep_state;
+use crate::text::put_number;
+use crate::text::write_front;
+use captures::answer::Head;
 use libc::STDERR_FILENO;
 use replay::answers::Outcome;
 use replay::answers::Replayed;
@@ -10,9 +14,11 @@ ghost use mathlib.Core.Path.{_≡_};
 ghost use Prim.Native.Nat.{_+_, _≤_, min};
 ghost use Rattle.replay.specs.Replay.{mostSteps, answered, resumeOf};
 ghost use Rattle.replay.specs.Calls.{budgeted as withBudget, added};
-ghost use Rattle.replay_capture.specs.Starting.{startOf, stopped, slice};
+ghost use Rattle.replay_capture.specs.Starting.{startOf, stopped};
 
-// The steps of a slice: a second or two.
+// The steps of the first slice, soon over, and of each later one.
+const FIRST_SLICE: u32 = 1_000_000;
+
 const SLICE: u32 = 20_000_000;
 
 // The largest budget that is allowed.
@@ -30,11 +36,11 @@ fn is_stopped(outcome: Outcome) -> bool
     }
 }
 
-// The first of so many steps.
-fn slice_of(left: u32) -> u32
+// The first of so many steps, at most a slice.
+fn slice_of(left: u32, slice: u32) -> u32
     ensures { λ r. ⌜ r ≡ min left slice ⌝ }
 {
-    if left < SLICE { left } else { SLICE }
+    if left < slice { left } else { slice }
 }
 
 // The same settings with another budget.
@@ -49,18 +55,11 @@ fn budgeted(settings: Settings, budget: u32) -> Settings
     }
 }
 
-// Clears the terminal's line: a carriage return, and then the escape sequence that erases to the end of the line.
-fn clear_line() {
-    io::write_all(STDERR_FILENO, &[13, 27, 91, 75]);
-}
-
-// How far a run has come, in place of what stood on the line.
-fn say_progress(steps: u32, of: u32) {
-    clear_line();
-    io::print_decimal(STDERR_FILENO, steps as u64);
-    io::write_all(STDERR_FILENO, b" of ");
-    io::print_decimal(STDERR_FILENO, of as u64);
-    io::write_all(STDERR_FILENO, b" steps");
+// A line of how many steps the run has made.
+fn say_steps(steps: u32) {
+    let mut line = [0u8; 32];
+    let n = put_number(&mut line, 0, b"steps ", steps as usize);
+    write_front(STDERR_FILENO, &line, n);
 }
 
 // Launches, or goes on with the state.
@@ -105,22 +104,25 @@ fn go_further(
     after
 }
 
-// The run of a capture in slices, each from the state that the one before returned, with a line of how far it has come.
+// The run of a capture in slices, each from the state that the one before returned. After each but the last the state is kept, so that
+// no more than a slice can be lost, and a line says how far it is.
 fn run_in_slices(
     settings: Settings,
     launched: bool,
     state: State,
+    head: Head,
     code: &[u32],
     regs: &mut [u32],
     device: &mut [u32],
     local: &mut [u32],
+    file: &mut [u8],
 ) -> Replayed
     requires { ⌜ settings .budget ≤ mostSteps ⌝ }
     ensures { λ r. ⌜
         answered r (now (regs .exit)) (now (device .exit)) (now (local .exit))
         ≡ startOf launched settings state (now (code .entry)) (now (regs .entry)) (now (device .entry)) (now (local .entry)) ⌝ }
 {
-    let first = slice_of(settings.budget);
+    let first = slice_of(settings.budget, FIRST_SLICE);
     let mut answer = start(
         budgeted(settings, first),
         launched,
@@ -136,39 +138,47 @@ fn run_in_slices(
         if !is_stopped(outcome) {
             break;
         }
-        say_progress(answer.steps, settings.budget);
-        let next = slice_of(left);
+        keep_state(head, answer, code, regs, device, local, file);
+        say_steps(answer.steps);
+        let next = slice_of(left, SLICE);
         answer = go_further(budgeted(settings, next), answer, code, regs, device, local);
         left -= next;
     }
     answer
 }
 
-// The run of a capture. Where standard error is a terminal and there is much to run, it goes in slices.
+// The run of a capture, in slices or in one call. A budget that is refused goes in one call.
 pub(crate) fn run(
     settings: Settings,
     launched: bool,
     state: State,
+    head: Head,
+    sliced: bool,
     code: &[u32],
     regs: &mut [u32],
     device: &mut [u32],
     local: &mut [u32],
+    file: &mut [u8],
 ) -> Replayed
     ensures { λ r. ⌜
         answered r (now (regs .exit)) (now (device .exit)) (now (local .exit))
         ≡ startOf launched settings state (now (code .entry)) (now (regs .entry)) (now (device .entry)) (now (local .entry)) ⌝ }
 {
-    let shown = libc::isatty(STDERR_FILENO) == 1;
-    if settings.budget <= SLICE {
-        return start(settings, launched, state, code, regs, device, local);
-    }
     if MOST_STEPS < settings.budget {
         return start(settings, launched, state, code, regs, device, local);
     }
-    if !shown {
+    if !sliced {
         return start(settings, launched, state, code, regs, device, local);
     }
-    let answer = run_in_slices(settings, launched, state, code, regs, device, local);
-    clear_line();
-    answer
+    run_in_slices(
+        settings,
+        launched,
+        state,
+        head,
+        code,
+        regs,
+        device,
+        local,
+        file,
+    )
 }

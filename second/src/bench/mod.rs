@@ -201,7 +201,7 @@ impl Row {
 
 /// Writes each kernel's capture for each width into a folder, as NAME-WIDTH.cap, with this budget.
 pub fn write_kernels(folder: &str, budget_text: &str) -> Done {
-    let budget = crate::assembly::number(budget_text)?;
+    let budget = crate::numerals::parse(budget_text)?;
     fs::create_dir_all(folder).map_err(|error| format!("{folder}: {error}"))?;
     for kernel in &KERNELS {
         for width in WIDTHS {

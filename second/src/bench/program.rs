@@ -15,7 +15,7 @@ use crate::report;
 /// How a program takes a capture.
 #[derive(Clone, Copy, PartialEq, Eq)]
 enum Way {
-    /// PROGRAM CAPTURE OUT, as `second replay` does: the report comes on standard output.
+    /// PROGRAM CAPTURE OUT KEY, as `second replay` does: the report comes on standard output.
     Files,
     /// One case on standard input, as `second answers` does: its answer comes on standard output.
     Cases,
@@ -67,7 +67,7 @@ impl<'a> Program<'a> {
         command.args(&self.words[1..]);
         let given = self.path("in");
         match self.way {
-            Way::Files => command.args([given, self.path("out")]),
+            Way::Files => command.args([given, self.path("out"), self.path("key")]),
             Way::Cases => command.stdin(File::open(given).map_err(|error| self.wrong(error))?),
         };
         Ok(command)
@@ -96,7 +96,7 @@ impl<'a> Program<'a> {
             return answer(&Case::Run { capture, key_room }, &mut Reached::default()).write();
         }
         let found = capture.run();
-        let mut bytes = report::report(capture.kernel, &found).into_bytes();
+        let mut bytes = report::report(&capture, &found).into_bytes();
         capture.state = Some(found.state);
         bytes.extend(capture.write());
         bytes

@@ -3,8 +3,8 @@
 use super::Case;
 use super::answer::{Answer, answer};
 use super::reached::Reached;
-use crate::assembly;
 use crate::capture;
+use crate::numerals;
 use crate::text;
 
 /// Compares an answer with the numbers that another program's answers go on with, and passes them.
@@ -64,6 +64,7 @@ pub fn name(case: &Case) -> &'static str {
         Case::Make { .. } => "make a day file",
         Case::File { .. } => "read a day file",
         Case::Listing { .. } => "list a day file",
+        Case::Text { .. } => "text of an instruction",
     }
 }
 
@@ -71,7 +72,9 @@ pub fn name(case: &Case) -> &'static str {
 pub fn describe(case: &Case) -> String {
     match case {
         Case::Read { words } => format!("words {}\n", hex(words)),
-        Case::Write { instruction, room } => format!("{instruction:?}, room {room}\n"),
+        Case::Write { instruction, room } | Case::Text { instruction, room } => {
+            format!("{instruction:?}, room {room}\n")
+        }
         Case::Run { capture, key_room } => {
             format!("{}\n# key room {key_room}\n", text::print(capture))
         }
@@ -92,6 +95,6 @@ pub fn describe(case: &Case) -> String {
 
 /// Numbers as text.
 pub fn hex(words: &[u32]) -> String {
-    let text: Vec<String> = words.iter().map(|w| assembly::number_text(*w)).collect();
+    let text: Vec<String> = words.iter().map(|w| numerals::print(*w)).collect();
     text.join(" ")
 }

@@ -3,6 +3,7 @@
 use super::format::{instruction_numbers, outcome_numbers, padded};
 use super::reached::Reached;
 use super::{Case, LENT, LENT_WORD};
+use crate::assembly;
 use crate::blocks::DEEPEST;
 use crate::bytes;
 use crate::capture::{self, Capture};
@@ -89,6 +90,7 @@ pub fn answer(case: &Case, reached: &mut Reached) -> Answer {
             answer.add("text", padded(text.as_bytes()));
             answer
         }
+        Case::Text { instruction, room } => text(instruction, *room, reached),
     }
 }
 
@@ -115,6 +117,16 @@ fn write(instruction: &Instruction, room: usize, reached: &mut Reached) -> Answe
     reached.refusal("an instruction written", refusal_of(&result).0);
     answer.add_length(&result);
     answer.add("output", output);
+    answer
+}
+
+fn text(instruction: &Instruction, room: usize, reached: &mut Reached) -> Answer {
+    let mut answer = Answer::default();
+    let mut output = vec![LENT; room];
+    let result = assembly::write(instruction, &mut output);
+    reached.text(instruction.operation, refusal_of(&result).0);
+    answer.add_length(&result);
+    answer.add("text", padded(&output));
     answer
 }
 

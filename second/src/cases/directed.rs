@@ -1,13 +1,21 @@
 //! Cases that are sure to reach what random ones reach seldom.
 
 use super::code::{Coder, words_of};
-use super::make::{capture, settings};
+use super::make::{LARGEST_TEXT_ROOM, capture, numbered, settings};
 use super::random::Random;
 use super::{Case, files, states};
 use crate::listing::LONGEST_FILE;
 use crate::operations::Operation;
 use crate::state::State;
 use crate::words::Instruction;
+
+/// The text of a whole instruction of this operation, with room for it.
+pub fn text(random: &mut Random, operation: Operation) -> Case {
+    Case::Text {
+        instruction: numbered(random, operation),
+        room: random.pick(&[LARGEST_TEXT_ROOM - 1, LARGEST_TEXT_ROOM]),
+    }
+}
 
 /// A launch that carries out every instruction that isn't control.
 pub fn sweep(random: &mut Random) -> Case {

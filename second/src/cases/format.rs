@@ -52,6 +52,7 @@ impl Case {
             Case::Make { .. } => 5,
             Case::File { .. } => 6,
             Case::Listing { .. } => 7,
+            Case::Text { .. } => 8,
         }
     }
 
@@ -63,7 +64,7 @@ impl Case {
                 numbers.push(words.len() as u32);
                 numbers.extend(words);
             }
-            Case::Write { instruction, room } => {
+            Case::Write { instruction, room } | Case::Text { instruction, room } => {
                 numbers.extend(instruction_numbers(instruction));
                 numbers.push(*room as u32);
             }
@@ -152,6 +153,7 @@ fn read_one(rest: &mut &[u32]) -> Option<Case> {
         5 => take.make()?,
         6 => take.file()?,
         7 => take.listing()?,
+        8 => take.text()?,
         _ => return None,
     };
     take.rest.is_empty().then_some(case)
@@ -267,6 +269,12 @@ impl Take<'_> {
         let length = self.number()? as usize;
         let file = self.bytes(length)?;
         Some(Case::Listing { file })
+    }
+
+    fn text(&mut self) -> Option<Case> {
+        let instruction = self.instruction()?;
+        let room = self.number()? as usize;
+        Some(Case::Text { instruction, room })
     }
 
     fn run(&mut self) -> Option<Case> {

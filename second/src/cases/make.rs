@@ -4,11 +4,15 @@ use super::Case;
 use super::code::{Coder, instruction, words_of};
 use super::random::Random;
 use super::{damage, directed, files, states};
+use crate::assembly;
 use crate::bytes;
 use crate::capture::Capture;
-use crate::operations::Operation;
+use crate::operations::{Form, Operation};
 use crate::run::Settings;
 use crate::words::Instruction;
+
+/// The most bytes that are lent for an instruction's text: some more than the longest has.
+pub const LARGEST_TEXT_ROOM: usize = 60;
 
 /// Case `number` of a seed, counted from 1. The first of each thousand are directed.
 pub fn case(seed: u64, number: u64) -> Case {
@@ -26,13 +30,17 @@ pub fn case(seed: u64, number: u64) -> Case {
         9 => directed::full_listing(random),
         10 => directed::too_long_file(),
         11 if number % 5000 == 4012 => directed::longest(random),
+        index @ 12.. => match Operation::ALL.get(index as usize - 12) {
+            Some(operation) => directed::text(random, *operation),
+            None => any(random),
+        },
         _ => any(random),
     }
 }
 
 /// A case of any kind.
 fn any(random: &mut Random) -> Case {
-    match random.weighted(&[10, 10, 29, 27, 7, 6, 7, 6, 2, 4, 8]) {
+    match random.weighted(&[10, 10, 29, 27, 7, 6, 7, 6, 2, 4, 8, 6]) {
         0 => read(random),
         1 => write(random),
         2 => run(random, false),
@@ -45,7 +53,8 @@ fn any(random: &mut Random) -> Case {
         },
         8 => directed::sweep(random),
         9 => directed::jumps(random),
-        _ => directed::control_only(random),
+        10 => directed::control_only(random),
+        _ => text(random),
     }
 }
 
@@ -74,6 +83,38 @@ fn write(random: &mut Random) -> Case {
     }
     let room = random.pick(&[0, 1, 2, 2, 2, 3, 4]);
     Case::Write { instruction, room }
+}
+
+/// An instruction whose text is asked for, whole or with one field changed, with about as much room.
+fn text(random: &mut Random) -> Case {
+    let operation = random.pick(Operation::ALL);
+    let mut instruction = numbered(random, operation);
+    if random.chance(50) {
+        change_field(random, &mut instruction);
+    }
+    let whole = assembly::write(&instruction, &mut [0; LARGEST_TEXT_ROOM]).ok();
+    let room = match (random.below(4), whole) {
+        (0, _) | (_, None) => random.below(LARGEST_TEXT_ROOM + 1),
+        (1, Some(length)) => length - 1,
+        (2, Some(length)) => length,
+        (_, Some(length)) => length + 1 + random.below(LARGEST_TEXT_ROOM - length),
+    };
+    Case::Text { instruction, room }
+}
+
+/// A random instruction of this operation, whose registers, and number where it has one, are of any length.
+pub fn numbered(random: &mut Random, operation: Operation) -> Instruction {
+    let registers = random.pick(&[10, 100, 256]);
+    let mut instruction = instruction(random, operation, registers);
+    if matches!(operation.form(), Form::Immediate | Form::Memory) {
+        let edges = [0, 9_999_999, 10_000_000, 99_999_999, 0xFFFFFFFF];
+        instruction.number = match random.below(3) {
+            0 => random.pick(&edges),
+            1 => 10u32.pow(random.below(10) as u32) - random.below(2) as u32,
+            _ => random.bits() >> random.below(32),
+        };
+    }
+    instruction
 }
 
 fn change_field(random: &mut Random, instruction: &mut Instruction) {

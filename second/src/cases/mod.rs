@@ -20,6 +20,7 @@
 //! | 5 make a day file | count of bytes, room in bytes, the bodies' bytes | refusal, place, length, the room's bytes |
 //! | 6 read a day file | record number, count of bytes, the file's bytes | refusal, place, count of records; for the record: refusal, place, offset, length, first equal record |
 //! | 7 list a day file | count of bytes, the file's bytes | count of bytes, the text's bytes |
+//! | 8 text of an instruction | INSTRUCTION, room in bytes | refusal, place, length, the room's bytes |
 //!
 //! Refusal and place are 0 where nothing is refused; what is left out by a refusal is 0.
 //!
@@ -30,6 +31,7 @@
 //!   of fault kinds 1 to 5, 0 where there are none.
 //! - STATE is 7 + 6 × depth numbers: place, active, halted, p1, p2, p3, depth, then part, opener, entered,
 //!   aside, again, left for each block, outermost first. In an answer at most the first 32 blocks follow.
+//! - The text of an instruction tests 12, then 13, as writing one does.
 //! - A run whose state has no words is a launch.
 //! - Counts in cases stay in these bounds: 65,537 code words, 8,193 register words, 2,048 words of each
 //!   memory, depth 40, 66,000 bytes of bodies, files and rooms.
@@ -88,5 +90,9 @@ pub enum Case {
     },
     Listing {
         file: Vec<u8>,
+    },
+    Text {
+        instruction: Instruction,
+        room: usize,
     },
 }

@@ -17,7 +17,7 @@ const NUMBERS: [&str; 17] = [
 ];
 
 /// The groups that have a label for each refusal number.
-const REFUSALS: [(&str, &[usize]); 10] = [
+const REFUSALS: [(&str, &[usize]); 11] = [
     ("an instruction read", &[0, 4, 5, 6]),
     ("an instruction written", &[0, 12, 13]),
     ("a launch", &[0, 1, 2, 3, 4, 5, 6, 7, 8, 9, 10]),
@@ -28,6 +28,7 @@ const REFUSALS: [(&str, &[usize]); 10] = [
     ("a day file read", &[0, 14, 15]),
     ("a record found", &[0, 14, 15, 16]),
     ("a listing", &[0, 14, 15]),
+    ("an instruction's text", &[0, 12, 13]),
 ];
 
 /// The groups that have labels of their own.
@@ -273,11 +274,20 @@ impl Reached {
         }
     }
 
+    /// Counts the text of an instruction by its operation, or its refusal.
+    pub fn text(&mut self, operation: Operation, refusal: u32) {
+        self.refusal("an instruction's text", refusal);
+        if refusal == 0 {
+            self.count("text of", operation.name());
+        }
+    }
+
     /// Everything that has to be reached.
     fn expected() -> Vec<(&'static str, &'static str)> {
         let mut all = vec![("a listing", "too long")];
         for operation in Operation::ALL {
             all.push(("instruction", operation.name()));
+            all.push(("text of", operation.name()));
             if words::takes_predicate(*operation) {
                 all.push(("on a predicate", operation.name()));
                 all.push(("on a predicate negated", operation.name()));

@@ -1,0 +1,105 @@
+-- What writing a text answers, and when: 12, 13 or written, exactly one of them; and one answer to the promise.
+use mathlib.Core.Path.{_≡_, refl, sym, ap, _∙_}
+use mathlib.Core.Bool.{Bool, true, false}
+use mathlib.Core.List.{List, _++_}
+use mathlib.Core.Logic.{_↔_}
+use mathlib.Core.Option.{some}
+use Prim.Native.Nat.{ℕ, _≤_, _<_, _^_}
+use native.Mathlib.Omega.{arith}
+use lib.Dec.{leb}
+use lib.ListN.{length, take, drop}
+use lib.Seq.{take-append-seam}
+use borrow.Author.Tests.{leb-true, leb-false, le-leb, lt-leb}
+use Rattle.words.specs.declared.instr.Instr.{Instr}
+use Rattle.words.specs.Forms.{valid}
+use Rattle.words.specs.Refusals.{Rule, numberOf}
+use Rattle.naming.specs.declared.TextAnswer.{TextAnswer}
+use Rattle.naming.specs.Text.{textOf}
+use Rattle.naming.specs.Lines.{instrOf}
+use Rattle.naming.specs.Writing.{Written, written, unwritten, textIn}
+use Rattle.naming.proofs.Theorems.{text-reads}
+
+-- every instruction and output has one of these
+data Outcome (i : Instr) (out : List ℕ) : Type 0 where
+  no-words : valid i ≡ false → textIn i out ≡ unwritten Rule.words out → Outcome i out
+  no-room : valid i ≡ true → length out < length (textOf i) → textIn i out ≡ unwritten Rule.room out → Outcome i out
+  wrote :
+      valid i ≡ true → length (textOf i) ≤ length out →
+      textIn i out ≡ written (TextAnswer.Wrote (length (textOf i))) (textOf i ++ drop (length (textOf i)) out) → Outcome i out
+
+outcome : (i : Instr) (out : List ℕ) → Outcome i out
+outcome i out = tested (valid i) refl
+  where
+    fitted : valid i ≡ true → (b : Bool) → leb (length (textOf i)) (length out) ≡ b → Outcome i out
+    fitted ok true e = Outcome.wrote ok (leb-true _ _ e) (rw (ok, e))
+    fitted ok false e = Outcome.no-room ok (leb-false _ _ e) (rw (ok, e))
+
+    tested : (b : Bool) → valid i ≡ b → Outcome i out
+    tested true ok = fitted ok (leb (length (textOf i)) (length out)) refl
+    tested false bad = Outcome.no-words bad (rw bad)
+
+one-number : {x : TextAnswer} {m n p q : ℕ} → x ≡ TextAnswer.Refused m p → x ≡ TextAnswer.Refused n q → m ≡ n
+one-number a b = cc
+
+one-count : {x : TextAnswer} {m n : ℕ} → x ≡ TextAnswer.Wrote m → x ≡ TextAnswer.Wrote n → m ≡ n
+one-count a b = cc
+
+not-both : {x : TextAnswer} {m n p : ℕ} → x ≡ TextAnswer.Refused m p → x ≡ TextAnswer.Wrote n → ⊥
+not-both a b = let z : _≡_ {A = ℕ} 0 1 = cc in omega arith
+
+module _ (i : Instr) (out : List ℕ) where
+  answered : {w : Written} → textIn i out ≡ w → textIn i out .answer ≡ w .answer
+  answered f = ap (λ (x : Written). x .answer) f
+
+  -- 12 exactly if no words give the instruction
+  pub no-words-give : (textIn i out .answer ≡ TextAnswer.Refused (numberOf Rule.words) 0) ↔ (valid i ≡ false)
+  no-words-give = (λ e. forth e (outcome i out), λ bad. rw bad)
+    where
+      forth : textIn i out .answer ≡ TextAnswer.Refused (numberOf Rule.words) 0 → Outcome i out → valid i ≡ false
+      forth e (Outcome.no-words bad f) = bad
+      forth e (Outcome.no-room ok h f) = let z = one-number e (answered f) in absurd (omega arith)
+      forth e (Outcome.wrote ok h f) = absurd (not-both e (answered f))
+
+  -- 13 exactly if words give it and its text is longer than the output
+  pub no-room-left :
+      (textIn i out .answer ≡ TextAnswer.Refused (numberOf Rule.room) 0) ↔ ((valid i ≡ true) × (length out < length (textOf i)))
+  no-room-left = (λ e. forth e (outcome i out), λ h. rw (h .0, lt-leb (length (textOf i)) (length out) (h .1)))
+    where
+      forth :
+          textIn i out .answer ≡ TextAnswer.Refused (numberOf Rule.room) 0 → Outcome i out → (valid i ≡ true) × (length out < length (textOf i))
+      forth e (Outcome.no-words bad f) = let z = one-number e (answered f) in absurd (omega arith)
+      forth e (Outcome.no-room ok h f) = (ok, h)
+      forth e (Outcome.wrote ok h f) = absurd (not-both e (answered f))
+
+  -- else it is written: the text stands first, and the rest is as lent
+  pub writes :
+      (n : ℕ) → textIn i out .answer ≡ TextAnswer.Wrote n →
+      (valid i ≡ true) × (n ≡ length (textOf i)) × (n ≤ length out) × (textIn i out .after ≡ textOf i ++ drop n out)
+  writes n e = by (outcome i out)
+    where
+      by : Outcome i out → (valid i ≡ true) × (n ≡ length (textOf i)) × (n ≤ length out) × (textIn i out .after ≡ textOf i ++ drop n out)
+      by (Outcome.no-words bad f) = absurd (not-both (answered f) e)
+      by (Outcome.no-room ok h f) = absurd (not-both (answered f) e)
+      by (Outcome.wrote ok h f) =
+          let same : n ≡ length (textOf i) = one-count e (answered f) in
+          (ok, same, rw same h, rw same (ap (λ (x : Written). x .after) f))
+
+  -- a refusal leaves the output as lent
+  pub refused-keeps : (n p : ℕ) → textIn i out .answer ≡ TextAnswer.Refused n p → textIn i out .after ≡ out
+  refused-keeps n p e = by (outcome i out)
+    where
+      by : Outcome i out → textIn i out .after ≡ out
+      by (Outcome.no-words bad f) = ap (λ (x : Written). x .after) f
+      by (Outcome.no-room ok h f) = ap (λ (x : Written). x .after) f
+      by (Outcome.wrote ok h f) = absurd (not-both e (answered f))
+
+  -- what is written reads as the instruction
+  pub written-reads : (n : ℕ) → i .number < 2 ^ 32 → textIn i out .answer ≡ TextAnswer.Wrote n → instrOf (take n (textIn i out .after)) ≡ some i
+  written-reads n small e =
+      let h = writes n e in
+      let front : take n (textIn i out .after) ≡ textOf i = rw (h .3, h .1) (take-append-seam (textOf i) (drop (length (textOf i)) out)) in
+      ap instrOf front ∙ text-reads i (h .0) small
+
+  -- any two answers that the promise allows, and later outputs, are equal
+  pub write-text-one : (r u : TextAnswer) (after later : List ℕ) → written r after ≡ textIn i out → written u later ≡ textIn i out → (r ≡ u) × (after ≡ later)
+  write-text-one r u after later p q = (ap (λ (w : Written). w .answer) (p ∙ sym q), ap (λ (w : Written). w .after) (p ∙ sym q))

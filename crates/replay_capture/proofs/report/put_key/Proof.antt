@@ -1,0 +1,19 @@
+-- The loop ends with the bytes, and the buffer keeps its length.
+use Prim.Native.Nat.{_-_, _≤_}
+use mathlib.Core.Path.{_≡_}
+use lib.ListN.{length}
+use borrow.Author.Needs.{needs}
+use Rattle.replay_capture.proofs.report.put_key.Statement.{statement}
+use Rattle.replay_capture.proofs.report.put_key.Tie as tie
+
+abbrev Inv-loop : tie.InvT-loop
+Inv-loop out₀ at body q₀ k₀ t7 out q k = (k ≤ length body) × (length out ≡ length out₀)
+
+abbrev μ-loop : tie.MeasureT-loop
+μ-loop out₀ at body q₀ k₀ t7 out q k = length body - k
+
+pub put-key-spec : {M : Type 1} → statement M
+put-key-spec = tie.close (tie.spec
+    Inv-loop μ-loop (λ c. search needs) (λ c κs. search needs) (λ c. search needs) (λ c. search needs) (λ c κs. search needs)
+    (λ c. search needs) (λ c. search needs) (λ c. search needs) (λ c. search needs) (λ c κs. search needs) (λ c. search needs)
+    (λ c. search needs))
