@@ -6,7 +6,7 @@ import os
 import sys
 import time
 
-PAUSE = 0.5
+PAUSE = 0.3
 FIRST, NEXT = 1_000_000, 20_000_000
 
 REPORT = """\

@@ -1,6 +1,7 @@
 """Long runs: slices kept in OUT, progress on a terminal, and what a stopped run says and leaves."""
 import os
 import pty
+import re
 import select
 import signal
 import subprocess
@@ -8,11 +9,12 @@ import sys
 import time
 import unittest
 
-from support import PATIENCE, ROOT, InFolder, capture, front, second
+from support import FRONT, PATIENCE, ROOT, InFolder, capture, front, second
 
 BUDGET = 61_000_000
 DATA = capture([0], budget=BUDGET)
 LOOP, ENDLOOP = 0x3F000030, 0x3F000060
+ONE_IN_R1, COUNT_IN_R0 = (0xF1010000, 1), (0x00000000, 0x01000000)
 
 
 def after(steps):
@@ -202,13 +204,36 @@ class OnATerminal(Slow):
 
 
 class Proved(InFolder):
+    """The proved program itself, on a loop that counts, beside the second program in one run."""
+
+    def setUp(self):
+        super().setUp()
+        self.out, self.other = self.room / 'out', self.room / 'other'
+
+    def loop(self, name, budget):
+        return self.file(name, capture([*ONE_IN_R1, LOOP, *COUNT_IN_R0, ENDLOOP], budget=budget))
+
     def test_slices_give_the_same(self):
-        """The proved program in slices, beside the second program in one run."""
-        given, out, other = self.file('loop.cap', capture([LOOP, ENDLOOP], budget=2_500_001)), self.room / 'out', self.room / 'other'
-        ran = front('replay', given, '-o', out)
+        given = self.loop('loop.cap', 2_500_001)
+        ran = front('replay', given, '-o', self.out)
         self.assertEqual((11, b'steps 2500001'), (ran.returncode, ran.stdout.splitlines()[1]))
-        second('replay', given, other)
-        self.assertEqual(other.read_bytes(), out.read_bytes())
+        second('replay', given, self.other)
+        self.assertEqual(self.other.read_bytes(), self.out.read_bytes())
+
+    def test_a_stopped_run_has_the_state_that_it_says(self):
+        run = subprocess.Popen([FRONT, 'replay', self.loop('loop.cap', 1_000_000_000), '-o', self.out], stderr=subprocess.PIPE)
+        end = time.monotonic() + PATIENCE
+        while not self.out.exists():
+            self.assertLess(time.monotonic(), end)
+            time.sleep(0.01)
+        run.send_signal(signal.SIGINT)
+        said = run.communicate(timeout=PATIENCE)[1].decode()
+        self.assertEqual(-signal.SIGINT, run.returncode, said)
+        steps = int(re.search(r'has the state after ([\d,]+) of 1,000,000,000 steps', said).group(1).replace(',', ''))
+        self.assertIn(f'--budget {1_000_000_000 - steps} -o NEXT', said)
+        second('replay', self.loop('beginning.cap', steps), self.other)
+        without_budget = lambda data: data[:24] + data[28:]
+        self.assertEqual(without_budget(self.other.read_bytes()), without_budget(self.out.read_bytes()))
 
 
 if __name__ == '__main__':
