@@ -34,6 +34,8 @@ def main(given, out, key, *slices):
         data = file.read()
     budget = int.from_bytes(data[24:28], 'little')
     steps = FIRST
+    if not slices:
+        time.sleep(2 * PAUSE)
     while slices and steps < budget:
         keep(out, data, steps)
         os.write(2, b'steps %d\n' % steps)

@@ -93,15 +93,16 @@ class Stopped(Slow):
         self.assertEqual(after(21_000_000), self.out.read_bytes())
 
     def test_without_out(self):
-        run = self.start()
-        self.wait_for(self.pid.exists)
-        time.sleep(0.2)
-        run.send_signal(signal.SIGINT)
-        error = run.communicate(timeout=PATIENCE)[1]
-        self.assertIn(run.returncode, (0, -signal.SIGINT))
-        if run.returncode:
-            self.assertEqual(b'llinosfar: stopped in the first slice of steps; nothing is written\n', error)
-        self.left_clean()
+        """However early the signal comes, the program that was started is ended."""
+        for pause in (0, 0.1, 0.2):
+            run = self.start()
+            self.wait_for(lambda: self.pid.exists() and self.pid.read_text())
+            time.sleep(pause)
+            run.send_signal(signal.SIGINT)
+            error = run.communicate(timeout=PATIENCE)[1]
+            self.assertEqual((-signal.SIGINT, b'llinosfar: stopped in the first slice of steps; nothing is written\n'), (run.returncode, error))
+            self.left_clean()
+            self.pid.unlink()
 
     def test_killed(self):
         run = self.start('-o', self.out)
