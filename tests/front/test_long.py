@@ -9,7 +9,7 @@ import sys
 import time
 import unittest
 
-from support import FRONT, PATIENCE, ROOT, InFolder, capture, front, second
+from support import FRONT, PATIENCE, ROOT, InFolder, build, capture, front, second
 
 BUDGET = 61_000_000
 DATA = capture([0], budget=BUDGET)
@@ -206,6 +206,7 @@ class OnATerminal(Slow):
 
 class Proved(InFolder):
     """The proved program itself, on a loop that counts, beside the second program in one run."""
+    setUpClass = build
 
     def setUp(self):
         super().setUp()
