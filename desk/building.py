@@ -58,18 +58,15 @@ def build(program, held):
     """
     BIN.mkdir(parents=True, exist_ok=True)
     log = BIN.parent / f'{program}.log'
-    rt = running.start(['rt', 'check', program], cwd=HOME, pass_fds=[held], stdin=subprocess.DEVNULL,
-                       stdout=subprocess.PIPE, stderr=subprocess.STDOUT)
+    words = ['rt', 'check', program]
     try:
-        with log.open('wb') as text:
+        with log.open('wb') as text, running.started(words, cwd=HOME, pass_fds=[held], stdin=subprocess.DEVNULL, stdout=subprocess.PIPE,
+                                                     stderr=subprocess.STDOUT) as rt, rt.stdout:
             follow(rt, program, text)
-        status = rt.wait()
+            status = rt.wait()
     except Stopped:
         streams.say(f'stopped while {program} was built; what is proved stays proved')
         raise
-    finally:
-        running.end(rt)
-        rt.stdout.close()
     if status != 0 or not (BIN / program).exists():
         raise Trouble(f'{program} was not built: what the prover said is in {log}')
 

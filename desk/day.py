@@ -56,6 +56,8 @@ def answer(program, data):
         raise Trouble(f'temporary files: {error.strerror or error}') from error
     if ran.status != 0:
         raise Trouble(f'{program} {ran.ending()}')
+    if ran.error and not ran.error.startswith(b'refused '):
+        raise Trouble(f'{program}: {ran.error.decode("utf-8", "replace").strip()}')
     return ran
 
 

@@ -57,12 +57,26 @@ def become(words, env):
         raise Trouble(f'{words[0]}: {error.strerror}') from error
 
 
-def start(words, **streams):
-    """Starts a program in a session of its own, so that the terminal's signals reach this process alone."""
+@contextlib.contextmanager
+def started(words, **streams):
+    """Starts a program in a session of its own, so that the terminal's signals reach this process alone. It is ended when this is left.
+
+    No signal can come between its start and the care for its end; it starts with those signals open that this process had open.
+    """
+    earlier = signal.pthread_sigmask(signal.SIG_BLOCK, SIGNALS)
+    process = None
     try:
-        return subprocess.Popen(words, start_new_session=True, **streams)
+        process = subprocess.Popen(words, start_new_session=True, preexec_fn=lambda: signal.pthread_sigmask(signal.SIG_SETMASK, earlier), **streams)
+        signal.pthread_sigmask(signal.SIG_SETMASK, earlier)
+        yield process
     except OSError as error:
+        if process:
+            raise
         raise Trouble(f'{words[0]}: {error.strerror}') from error
+    finally:
+        if process:
+            end(process)
+        signal.pthread_sigmask(signal.SIG_SETMASK, earlier)
 
 
 def end(process):
@@ -74,14 +88,9 @@ def end(process):
 
 def run(words, env=None, stdin=subprocess.DEVNULL, told=None):
     """Runs a program to its end. `told` gets each line of its standard error as it comes, and says whether it is kept."""
-    process = start(words, env=env, stdin=stdin, stdout=subprocess.PIPE, stderr=subprocess.PIPE)
-    try:
+    with started(words, env=env, stdin=stdin, stdout=subprocess.PIPE, stderr=subprocess.PIPE) as process, process.stdout, process.stderr:
         out, error = collect(process, told or (lambda line: True))
         return Ran(process.wait(), out, error)
-    finally:
-        end(process)
-        process.stdout.close()
-        process.stderr.close()
 
 
 def collect(process, told):

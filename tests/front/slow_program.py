@@ -6,7 +6,7 @@ import os
 import sys
 import time
 
-PAUSE = 0.5
+PAUSE = 0.3
 FIRST, NEXT = 1_000_000, 20_000_000
 
 REPORT = """\
@@ -34,6 +34,8 @@ def main(given, out, key, *slices):
         data = file.read()
     budget = int.from_bytes(data[24:28], 'little')
     steps = FIRST
+    if not slices:
+        time.sleep(2 * PAUSE)
     while slices and steps < budget:
         keep(out, data, steps)
         os.write(2, b'steps %d\n' % steps)

@@ -1,4 +1,5 @@
 """What the front's tests share: running it, folders of their own, and captures made from numbers."""
+import functools
 import os
 import pathlib
 import shutil
@@ -19,8 +20,15 @@ sys.path.insert(0, str(ROOT))
 PATIENCE = 120
 
 
+@functools.lru_cache(maxsize=None)
+def build():
+    """Has the programs built once, however long it takes, so that no test waits for it."""
+    subprocess.run([FRONT, 'build'], check=True)
+
+
 def front(*words, **how):
     """Runs llinosfar with standard input empty and its outputs kept, unless `how` says otherwise."""
+    build()
     how = {'stdin': subprocess.DEVNULL, 'stdout': subprocess.PIPE, 'stderr': subprocess.PIPE, 'timeout': PATIENCE, **how}
     if 'input' in how:
         del how['stdin']

@@ -7,7 +7,7 @@ import subprocess
 import sys
 import unittest
 
-from support import FRONT, ROOT, InFolder, front, sample
+from support import FRONT, ROOT, InFolder, build, front, sample
 
 from desk import files
 from desk.status import Trouble, WrongUse
@@ -31,6 +31,8 @@ class Names(InFolder):
 
 
 class Existing(InFolder):
+    setUpClass = build
+
     def refused(self, name, error, *words):
         """Holds a run that may not write to its line, and to the report that isn't printed."""
         for option in ('-o', '-k'):
@@ -207,6 +209,8 @@ class Full(InFolder):
 
 
 class Together(InFolder):
+    setUpClass = build
+
     def test_two_runs_with_one_out(self):
         """Whole bytes of one of them, and without -f the later one is told."""
         for force in ((), ('-f',)):

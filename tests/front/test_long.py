@@ -1,6 +1,7 @@
 """Long runs: slices kept in OUT, progress on a terminal, and what a stopped run says and leaves."""
 import os
 import pty
+import re
 import select
 import signal
 import subprocess
@@ -8,11 +9,12 @@ import sys
 import time
 import unittest
 
-from support import PATIENCE, ROOT, InFolder, capture, front, second
+from support import FRONT, PATIENCE, ROOT, InFolder, build, capture, front, second
 
 BUDGET = 61_000_000
 DATA = capture([0], budget=BUDGET)
 LOOP, ENDLOOP = 0x3F000030, 0x3F000060
+ONE_IN_R1, COUNT_IN_R0 = (0xF1010000, 1), (0x00000000, 0x01000000)
 
 
 def after(steps):
@@ -91,15 +93,16 @@ class Stopped(Slow):
         self.assertEqual(after(21_000_000), self.out.read_bytes())
 
     def test_without_out(self):
-        run = self.start()
-        self.wait_for(self.pid.exists)
-        time.sleep(0.2)
-        run.send_signal(signal.SIGINT)
-        error = run.communicate(timeout=PATIENCE)[1]
-        self.assertIn(run.returncode, (0, -signal.SIGINT))
-        if run.returncode:
-            self.assertEqual(b'llinosfar: stopped in the first slice of steps; nothing is written\n', error)
-        self.left_clean()
+        """However early the signal comes, the program that was started is ended."""
+        for pause in (0, 0.1, 0.2):
+            run = self.start()
+            self.wait_for(lambda: self.pid.exists() and self.pid.read_text())
+            time.sleep(pause)
+            run.send_signal(signal.SIGINT)
+            error = run.communicate(timeout=PATIENCE)[1]
+            self.assertEqual((-signal.SIGINT, b'llinosfar: stopped in the first slice of steps; nothing is written\n'), (run.returncode, error))
+            self.left_clean()
+            self.pid.unlink()
 
     def test_killed(self):
         run = self.start('-o', self.out)
@@ -202,13 +205,37 @@ class OnATerminal(Slow):
 
 
 class Proved(InFolder):
+    """The proved program itself, on a loop that counts, beside the second program in one run."""
+    setUpClass = build
+
+    def setUp(self):
+        super().setUp()
+        self.out, self.other = self.room / 'out', self.room / 'other'
+
+    def loop(self, name, budget):
+        return self.file(name, capture([*ONE_IN_R1, LOOP, *COUNT_IN_R0, ENDLOOP], budget=budget))
+
     def test_slices_give_the_same(self):
-        """The proved program in slices, beside the second program in one run."""
-        given, out, other = self.file('loop.cap', capture([LOOP, ENDLOOP], budget=2_500_001)), self.room / 'out', self.room / 'other'
-        ran = front('replay', given, '-o', out)
+        given = self.loop('loop.cap', 2_500_001)
+        ran = front('replay', given, '-o', self.out)
         self.assertEqual((11, b'steps 2500001'), (ran.returncode, ran.stdout.splitlines()[1]))
-        second('replay', given, other)
-        self.assertEqual(other.read_bytes(), out.read_bytes())
+        second('replay', given, self.other)
+        self.assertEqual(self.other.read_bytes(), self.out.read_bytes())
+
+    def test_a_stopped_run_has_the_state_that_it_says(self):
+        run = subprocess.Popen([FRONT, 'replay', self.loop('loop.cap', 1_000_000_000), '-o', self.out], stderr=subprocess.PIPE)
+        end = time.monotonic() + PATIENCE
+        while not self.out.exists():
+            self.assertLess(time.monotonic(), end)
+            time.sleep(0.01)
+        run.send_signal(signal.SIGINT)
+        said = run.communicate(timeout=PATIENCE)[1].decode()
+        self.assertEqual(-signal.SIGINT, run.returncode, said)
+        steps = int(re.search(r'has the state after ([\d,]+) of 1,000,000,000 steps', said).group(1).replace(',', ''))
+        self.assertIn(f'--budget {1_000_000_000 - steps} -o NEXT', said)
+        second('replay', self.loop('beginning.cap', steps), self.other)
+        without_budget = lambda data: data[:24] + data[28:]
+        self.assertEqual(without_budget(self.other.read_bytes()), without_budget(self.out.read_bytes()))
 
 
 if __name__ == '__main__':

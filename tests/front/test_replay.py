@@ -2,7 +2,7 @@
 import json
 import unittest
 
-from support import SAMPLES, InFolder, capture, front, sample, second
+from support import SAMPLES, InFolder, build, capture, front, sample, second
 
 STATUS = {'ended': 0, 'fault': 10, 'out of budget': 11, 'refused': 12}
 
@@ -166,6 +166,8 @@ class Refused(InFolder):
 
 
 class Parallel(InFolder):
+    setUpClass = build
+
     def test_one_write_for_one_report(self):
         """Eight runs at once into one pipe: each report stands whole."""
         import os

@@ -4,17 +4,20 @@ import subprocess
 import time
 import unittest
 
-from support import FRONT, InFolder, front, sample
+from support import FRONT, InFolder, build, front, sample
 
 EXPLAINED = sample('t14', 'explained').read_bytes()
 
 
 def shell(line, *words):
     """Runs a line of shell, in which $0 is llinosfar."""
+    build()
     return subprocess.run(['bash', '-c', line, FRONT, *map(str, words)], stdin=subprocess.DEVNULL, capture_output=True)
 
 
 class Output(InFolder):
+    setUpClass = build
+
     def test_full(self):
         key, out = self.room / 'key', self.room / 'out'
         with open('/dev/full', 'wb') as full:
