@@ -1,5 +1,5 @@
--- What writing a text answers, and when: 12, 13 or written, exactly one of them; and one answer to the promise.
-use mathlib.Core.Path.{_≡_, refl, sym, ap, _∙_}
+-- What writing a text answers, and when: 12, 13 or written, exactly one of them.
+use mathlib.Core.Path.{_≡_, refl, ap, _∙_}
 use mathlib.Core.Bool.{Bool, true, false}
 use mathlib.Core.List.{List, _++_}
 use mathlib.Core.Logic.{_↔_}
@@ -99,7 +99,3 @@ module _ (i : Instr) (out : List ℕ) where
       let h = writes n e in
       let front : take n (textIn i out .after) ≡ textOf i = rw (h .3, h .1) (take-append-seam (textOf i) (drop (length (textOf i)) out)) in
       ap instrOf front ∙ text-reads i (h .0) small
-
-  -- any two answers that the promise allows, and later outputs, are equal
-  pub write-text-one : (r u : TextAnswer) (after later : List ℕ) → written r after ≡ textIn i out → written u later ≡ textIn i out → (r ≡ u) × (after ≡ later)
-  write-text-one r u after later p q = (ap (λ (w : Written). w .answer) (p ∙ sym q), ap (λ (w : Written). w .after) (p ∙ sym q))

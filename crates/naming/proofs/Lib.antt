@@ -11,3 +11,4 @@ pub mod Leading
 pub mod Pieced
 pub mod Whole
 pub mod Answers
+pub mod OneAnswer
