@@ -9,7 +9,7 @@ use native.Mathlib.Omega.{arith}
 use lib.Dec.{leb}
 use lib.ListN.{length, take, drop}
 use lib.Seq.{take-append-seam}
-use borrow.Author.Tests.{leb-true, leb-false, le-leb, lt-leb}
+use borrow.Author.Tests.{leb-true, leb-false, lt-leb}
 use Rattle.words.specs.declared.instr.Instr.{Instr}
 use Rattle.words.specs.Forms.{valid}
 use Rattle.words.specs.Refusals.{Rule, numberOf}

@@ -8,8 +8,6 @@ use native.Mathlib.Decide.{decLt}
 use native.Mathlib.Nat.{pow-zero, pow-suc, pow-le-pow-right, mod-lt, zero-add}
 use native.Mathlib.Omega.{arith}
 use borrow.Author.Tests.{lt-ltb, le-ltb, le-leb}
-use lib.ListN.{length}
-use Rattle.ground.specs.Tests.{allOf}
 use Rattle.naming.specs.Numerals.{glyph, digits, places, hexFrom, numeral}
 use Rattle.naming.specs.Pieces.{packed, unpacked, joined}
 use Rattle.naming.proofs.Numbers.{length-digits, digits-all, places-few}

@@ -14,7 +14,7 @@ use Rattle.ground.specs.Tests.{allOf}
 use Rattle.ground.proofs.Bools.{and-left, and-right}
 use Rattle.numbers.specs.Placed.{placed}
 use Rattle.numbers.proofs.Placing.{placed-append, placed-nil, length-placed}
-use Rattle.naming.specs.Pieces.{packed, unpacked, joined, piecesRoom, Puts}
+use Rattle.naming.specs.Pieces.{packed, unpacked, joined, Puts}
 
 -- ---- one piece
 

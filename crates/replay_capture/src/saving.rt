@@ -17,7 +17,7 @@ fn give_up(path: &[u8], beside: &[u8]) {
 fn write_beside(path: &[u8], beside: &[u8], bytes: &[u8]) {
     let fd = os::open_overwrite(beside);
     if fd < 0 {
-        os::fail(beside);
+        os::fail(path);
         return;
     }
     let written = io::write_all(fd, bytes);

@@ -1,5 +1,5 @@
 -- A valid instruction has its whole text in the line, so that putting the line is what `textIn` says.
-use mathlib.Core.Path.{_≡_, refl, sym, ap, _∙_}
+use mathlib.Core.Path.{_≡_, refl, sym, _∙_}
 use mathlib.Core.Bool.{true}
 use Prim.Native.Nat.{_<_, _≤_, _^_}
 use native.Mathlib.Omega.{arith}
