@@ -1,5 +1,6 @@
 // The report of a replay on standard output, in plain lines, each beginning with its word.
-use compute::Faults;
+use compute::faults::Faults;
+use compute::faults::no_faults;
 use lanes::Lanes;
 use libc::STDOUT_FILENO;
 use replay::answers::Outcome;
@@ -119,13 +120,7 @@ fn say_state(h: Hot, f: Faults) {
 
 // The outcome's line, and the lanes of each fault kind.
 fn say_outcome(outcome: Outcome) -> Faults {
-    let mut faults = Faults {
-        odd: 0,
-        device: 0,
-        local: 0,
-        divisor: 0,
-        barrier: 0,
-    };
+    let mut faults = no_faults();
     match outcome {
         Outcome::Ended => say(b"outcome ended\n"),
         Outcome::OutOfBudget => say(b"outcome out of budget\n"),
