@@ -3,7 +3,8 @@ use crate::format::give_words;
 use crate::format::low;
 use crate::format::number;
 use crate::format::take_words;
-use compute::Faults;
+use compute::faults::Faults;
+use compute::faults::from_lanes;
 use packing::STATE_WORDS;
 use packing::state_of;
 use packing::word_count;
@@ -40,13 +41,13 @@ pub(crate) fn give_state(out: &mut [u8], at: usize, state: State) -> usize {
 
 // The lanes of each kind of fault in a key's case.
 fn faults_of(case: &[u8]) -> Faults {
-    Faults {
-        odd: number(case, 5),
-        device: number(case, 6),
-        local: number(case, 7),
-        divisor: number(case, 8),
-        barrier: number(case, 9),
-    }
+    from_lanes([
+        number(case, 5),
+        number(case, 6),
+        number(case, 7),
+        number(case, 8),
+        number(case, 9),
+    ])
 }
 
 // The outcome of a key's case.

@@ -14,13 +14,13 @@ use Rattle.words.specs.declared.instr.Op.{Op}
 use Rattle.words.specs.declared.instr.Instr.{Instr}
 use Rattle.arith.specs.Arith.{addressOf}
 use Rattle.compute.specs.declared.Shape.{Shape}
-use Rattle.compute.specs.declared.Faults.{Faults}
+use Rattle.compute.specs.declared.faults.Faults.{Faults}
 use Rattle.compute.specs.declared.memory.Change.{Change}
 use Rattle.compute.specs.Registers.{byLane, gatherOf, writeLanes}
 use Rattle.compute.specs.Memory.{Memories, memories, memoryOf, wordOf, changesOf, oldOf}
 use Rattle.compute.specs.Operands.{Lent, lent, operandsOf}
 use Rattle.compute.specs.Values.{specialOf, resultsOf, predicateOf, changed}
-use Rattle.compute.specs.Faulting.{faults, kindsOf, addressFault}
+use Rattle.compute.specs.Faulting.{noFaults, kindsOf, addressFault}
 use Rattle.compute.specs.Carrying.{Outcome, outcome, faultsOf, afterOf, unlessFault, havingRead}
 use Rattle.compute.specs.Lanewise.{twoLanes, compareLanes, oneLanes, loadLanes, changeTo}
 use Rattle.compute.specs.Classes.{Settled, addressFaults, divisorFaults, Writes, Computes, reached, Loads, storesOf, StoresIn, Changes}
@@ -58,7 +58,7 @@ module _ (shape : Shape) (x : Instr) (t p : ℕ) (regs device local : List ℕ) 
   -- ---- what each class does is what the one definition says
 
   -- where no lane has a kind of fault
-  unfaulted : (after : Lent) → outcome (faults 0 0 0 0) after ≡ unlessFault (kindsOf W t (λ i. 0)) before after
+  unfaulted : (after : Lent) → outcome noFaults after ≡ unlessFault (kindsOf W t (λ i. 0)) before after
   unfaulted after = ap (λ (f : Faults). unlessFault f before after) (no-kinds W t (λ i. 0) (λ i b. refl))
 
   as-two : (o : TwoOp) → x .op ≡ Op.Two o
@@ -67,23 +67,23 @@ module _ (shape : Shape) (x : Instr) (t p : ℕ) (regs device local : List ℕ) 
   as-two o e = rw e refl
 
   as-compare : (o : CompareOp) → x .op ≡ Op.Compare o
-      → outcome (faults 0 0 0 0) (lent (predicateOf W p t (compareLanes o shape regs (x .rs1) (x .rs2))) regs device local) ≡ done
+      → outcome noFaults (lent (predicateOf W p t (compareLanes o shape regs (x .rs1) (x .rs2))) regs device local) ≡ done
   unfolding faultsOf afterOf resultsOf compareLanes
   as-compare o e = rw e (unfaulted _)
 
-  as-one : (o : OneOp) → x .op ≡ Op.One o → outcome (faults 0 0 0 0) (left (write (oneLanes o shape regs (x .rs1))) both) ≡ done
+  as-one : (o : OneOp) → x .op ≡ Op.One o → outcome noFaults (left (write (oneLanes o shape regs (x .rs1))) both) ≡ done
   unfolding faultsOf afterOf resultsOf oneLanes
   as-one o e = rw e (unfaulted _)
 
-  as-special : x .op ≡ Op.Special → outcome (faults 0 0 0 0) (left (write (byLane W (specialOf (x .rs1)))) both) ≡ done
+  as-special : x .op ≡ Op.Special → outcome noFaults (left (write (byLane W (specialOf (x .rs1)))) both) ≡ done
   unfolding faultsOf afterOf resultsOf
   as-special e = rw e (unfaulted _)
 
-  as-number : x .op ≡ Op.Number → outcome (faults 0 0 0 0) (left (write (byLane W (λ i. x .number))) both) ≡ done
+  as-number : x .op ≡ Op.Number → outcome noFaults (left (write (byLane W (λ i. x .number))) both) ≡ done
   unfolding faultsOf afterOf resultsOf
   as-number e = rw e (unfaulted _)
 
-  as-control : (o : ControlOp) → x .op ≡ Op.Control o → outcome (faults 0 0 0 0) before ≡ done
+  as-control : (o : ControlOp) → x .op ≡ Op.Control o → outcome noFaults before ≡ done
   unfolding faultsOf afterOf resultsOf
   as-control o e = rw e (unfaulted _)
 
@@ -134,16 +134,16 @@ module _ (shape : Shape) (x : Instr) (t p : ℕ) (regs device local : List ℕ) 
       → outcome r (lent p after device local) ≡ done
   arm-two o e r after h = settled-outcome (settled-within (λ (l : List ℕ). left l both) h) ∙ as-two o e
 
-  pub arm-compare : (o : CompareOp) → x .op ≡ Op.Compare o → (r : Faults) (q : ℕ) (results : List ℕ) → r ≡ faults 0 0 0 0
+  pub arm-compare : (o : CompareOp) → x .op ≡ Op.Compare o → (r : Faults) (q : ℕ) (results : List ℕ) → r ≡ noFaults
       → results ≡ compareLanes o shape regs (x .rs1) (x .rs2) → q ≡ predicateOf W p t results → outcome r (lent q regs device local) ≡ done
   arm-compare o e r q results f v h =
       ap₂ (λ (f : Faults) (q : ℕ). outcome f (lent q regs device local)) f (h ∙ ap (predicateOf W p t) v) ∙ as-compare o e
 
   -- results that no fault stops
   value-left : (r : Faults) (value results after : List ℕ) → Writes shape t (x .rd) value r regs after → value ≡ results
-      → outcome r (lent p after device local) ≡ outcome (faults 0 0 0 0) (left (write results) both)
+      → outcome r (lent p after device local) ≡ outcome noFaults (left (write results) both)
   value-left r value results after h e =
-      settled-outcome (settled-within (λ (l : List ℕ). left l both) (settled-as h (faults 0 0 0 0) (write results) refl (ap write e)))
+      settled-outcome (settled-within (λ (l : List ℕ). left l both) (settled-as h noFaults (write results) refl (ap write e)))
 
   pub arm-one : (o : OneOp) → x .op ≡ Op.One o → (r : Faults) (value after : List ℕ) → value ≡ oneLanes o shape regs (x .rs1)
       → Writes shape t (x .rd) value r regs after → outcome r (lent p after device local) ≡ done
@@ -183,5 +183,5 @@ module _ (shape : Shape) (x : Instr) (t p : ℕ) (regs device local : List ℕ) 
       → outcome r (lent p after device′ local) ≡ done
   arm-swap e r after device′ h = changes-left Change.Swap (x .rs2) (x .rs3) r after device′ h ∙ as-swap e
 
-  pub arm-control : (o : ControlOp) → x .op ≡ Op.Control o → (r : Faults) → r ≡ faults 0 0 0 0 → outcome r before ≡ done
+  pub arm-control : (o : ControlOp) → x .op ≡ Op.Control o → (r : Faults) → r ≡ noFaults → outcome r before ≡ done
   arm-control o e r f = ap (λ (f : Faults). outcome f before) f ∙ as-control o e

@@ -18,16 +18,16 @@ use Rattle.words.specs.declared.instr.Op.{Op}
 use Rattle.words.specs.declared.instr.Instr.{Instr}
 use Rattle.words.specs.Registers.{registersOf}
 use Rattle.compute.specs.declared.Shape.{Shape}
-use Rattle.compute.specs.declared.Faults.{Faults}
+use Rattle.compute.specs.declared.faults.Faults.{Faults}
 use Rattle.compute.specs.Registers.{slotIn, writeLanes}
 use Rattle.compute.specs.Memory.{Memories, memories, memoryOf, changesOf}
 use Rattle.compute.specs.Operands.{Lent, Operands, operandsOf}
 use Rattle.compute.specs.Values.{resultsOf, targetBy, regsBy, predicateOf, predicateBy, changed, memoriesBy}
-use Rattle.compute.specs.Faulting.{faults, kindsOf, clear}
+use Rattle.compute.specs.Faulting.{noFaults, kindsOf, clear}
 use Rattle.compute.specs.Carrying.{Outcome, outcome, inShape, faultsOf, afterOf, unlessFault, havingRead, carriedOf}
 use Rattle.compute.proofs.Writing.{length-write-lanes, written}
 use Rattle.compute.proofs.Changing.{length-changes}
-use Rattle.compute.proofs.FaultKinds.{faults-same, lanes-idle}
+use Rattle.compute.proofs.FaultKinds.{idle-kinds}
 use Rattle.compute.proofs.Standing.{stands-rd}
 use Rattle.compute.proofs.Arms.{arm-control}
 
@@ -85,11 +85,6 @@ module _ {t : ℕ} (z : t ≡ 0) where
   never-has : (i : ℕ) → has t i ≡ false
   never-has i = rw z (has-zero i)
 
-  no-faults : (W : ℕ) (kind : ℕ → ℕ) → kindsOf W t kind ≡ faults 0 0 0 0
-  no-faults W kind =
-      faults-same _ _ _ _ 0 0 0 0 (lanes-idle W t kind 1 never-has) (lanes-idle W t kind 2 never-has) (lanes-idle W t kind 3 never-has)
-      (lanes-idle W t kind 4 never-has)
-
   no-bits : (W p : ℕ) (results : List ℕ) → predicateOf W p t results ≡ p
   no-bits W p results =
       has-ext (predicateOf W p t results) p
@@ -123,11 +118,11 @@ module _ (shape : Shape) (x : Instr) (t : ℕ) (m : Lent) where
   carried-in e = rw e refl
 
   -- out of shape nothing happens
-  pub carried-out : inShape shape x (m .regs) ≡ false → carriedOf shape x t m ≡ outcome (faults 0 0 0 0) m
+  pub carried-out : inShape shape x (m .regs) ≡ false → carriedOf shape x t m ≡ outcome noFaults m
   unfolding carriedOf
   carried-out e = rw e refl
 
-  pub carried-by : (P : Outcome → Type 0) → (inShape shape x (m .regs) ≡ true → P (havingRead shape x t read m)) → P (outcome (faults 0 0 0 0) m)
+  pub carried-by : (P : Outcome → Type 0) → (inShape shape x (m .regs) ≡ true → P (havingRead shape x t read m)) → P (outcome noFaults m)
       → P (carriedOf shape x t m)
   unfolding carriedOf
   carried-by P p q = cond-by P (inShape shape x (m .regs)) _ _ p (λ e. q)
@@ -194,11 +189,11 @@ module _ (shape : Shape) (x : Instr) (t : ℕ) (m : Lent) where
   -- ---- no executing lane
 
   -- nothing happens
-  pub idle : t ≡ 0 → carriedOf shape x t m ≡ outcome (faults 0 0 0 0) m
+  pub idle : t ≡ 0 → carriedOf shape x t m ≡ outcome noFaults m
   unfolding faultsOf afterOf
   idle z =
-      carried-by (λ (o : Outcome). o ≡ outcome (faults 0 0 0 0) m)
-      (λ e. ap₂ (λ (f : Faults) (l : Lent). unlessFault f m l) (no-faults z (shape .width) _) (lent-same _ _ _
+      carried-by (λ (o : Outcome). o ≡ outcome noFaults m)
+      (λ e. ap₂ (λ (f : Faults) (l : Lent). unlessFault f m l) (idle-kinds (shape .width) t _ (never-has z)) (lent-same _ _ _
       (predicate-by (λ (p : ℕ). p ≡ m .predicate) (x .op) shape t results (m .predicate) (no-bits z (shape .width) (m .predicate) results) refl)
       (regs-by (λ (l : List ℕ). l ≡ m .regs) (x .op) shape (x .rd) t results (m .regs) (λ u. no-writes z shape (m .regs) (x .rd) results) refl)
       (memories-by (λ (y : Memories). y ≡ m .memories) (x .op) (shape .width) x t read (m .memories)
@@ -211,8 +206,8 @@ module _ (shape : Shape) (x : Instr) (t : ℕ) (m : Lent) where
 
   -- ---- control
 
-  pub control : (o : ControlOp) → x .op ≡ Op.Control o → carriedOf shape x t m ≡ outcome (faults 0 0 0 0) m
+  pub control : (o : ControlOp) → x .op ≡ Op.Control o → carriedOf shape x t m ≡ outcome noFaults m
   control o e =
-      carried-by (λ (c : Outcome). c ≡ outcome (faults 0 0 0 0) m)
-      (λ s. sym (arm-control shape x t (m .predicate) (m .regs) (m .memories .device) (m .memories .local) o e (faults 0 0 0 0) refl))
+      carried-by (λ (c : Outcome). c ≡ outcome noFaults m)
+      (λ s. sym (arm-control shape x t (m .predicate) (m .regs) (m .memories .device) (m .memories .local) o e noFaults refl))
       refl

@@ -10,8 +10,8 @@ use native.Mathlib.Nat.{min-eq-left, min-eq-right}
 use native.Mathlib.Numerals.{add-one}
 use native.Mathlib.Omega.{arith}
 use lib.Dec.{eqb}
-use lib.ListN.{length, getD, drop, drop-of-length-le}
-use lib.Seq.{drop-cons}
+use lib.ListN.{length, getD, take, drop, drop-of-length-le}
+use lib.Seq.{drop-cons, getD-take, length-take-le}
 use borrow.Author.Tests.{lt-leb, not-true}
 use Rattle.ground.specs.Tests.{allOf}
 use Rattle.ground.proofs.Bools.{and-left, and-right}
@@ -20,7 +20,7 @@ use Rattle.lanes.specs.Sets.{has, setOf}
 use Rattle.lanes.proofs.Bits.{set-of-same}
 use Rattle.words.specs.declared.instr.Space.{Space}
 use Rattle.compute.specs.Memory.{wordOf}
-use Rattle.compute.specs.Faulting.{isOdd, isPast, pastKind, addressFault, faults, kindsOf}
+use Rattle.compute.specs.Faulting.{isOdd, isPast, pastKind, addressFault, noFaults, kindsOf}
 use Rattle.compute.proofs.FaultKinds.{no-kinds}
 
 -- past the words that an address can name is past all
@@ -68,6 +68,10 @@ unfaulted s words named address e low h =
     ∙ not-true (isPast named address) (and-right (eqb (address % 4) 0) (not (isPast named address)) h))
 
 pub all-in-reach : (s : Space) (W t words named : ℕ) (at : List ℕ) → named ≡ min words 0x40000000 → ((i : ℕ) → wordOf (getD at i 0) < 0x40000000)
-    → W ≤ length at → allOf (inReach named) at ≡ true → faults 0 0 0 0 ≡ kindsOf W t (λ i. addressFault s words (getD at i 0))
+    → W ≤ length at → allOf (inReach named) (take W at) ≡ true → noFaults ≡ kindsOf W t (λ i. addressFault s words (getD at i 0))
 all-in-reach s W t words named at e low long h =
-    no-kinds W t _ (λ i b. unfaulted s words named (getD at i 0) e (low i) (all-at (inReach named) at i 0 h (omega arith)))
+    no-kinds W t _
+    (λ i b.
+    let n : i < length (take W at) = omega (arith, length-take-le W at long) in
+    unfaulted s words named (getD at i 0) e (low i)
+    (ap (inReach named) (sym (getD-take W at i 0 b)) ∙ all-at (inReach named) (take W at) i 0 h n))

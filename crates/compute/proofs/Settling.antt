@@ -2,7 +2,7 @@
 use mathlib.Core.Path.{_≡_, refl, sym, ap, ap₂, _∙_}
 use mathlib.Core.Bool.{Bool, true, false, cond}
 use Rattle.ground.proofs.Choices.{cond-ap, cond-ap₂}
-use Rattle.compute.specs.declared.Faults.{Faults}
+use Rattle.compute.specs.declared.faults.Faults.{Faults}
 use Rattle.compute.specs.Faulting.{clear}
 use Rattle.compute.specs.Classes.{Settled}
 

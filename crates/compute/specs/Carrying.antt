@@ -9,11 +9,11 @@ use Rattle.lanes.specs.Sets.{widest}
 use Rattle.words.specs.declared.instr.Instr.{Instr}
 use Rattle.words.specs.Registers.{registersBelow}
 use Rattle.compute.specs.declared.Shape.{Shape}
-use Rattle.compute.specs.declared.Faults.{Faults}
+use Rattle.compute.specs.declared.faults.Faults.{Faults}
 use Rattle.compute.specs.declared.Carried.{Carried}
 use Rattle.compute.specs.Operands.{Lent, lent, Operands, operandsOf}
 use Rattle.compute.specs.Values.{resultsOf, targetBy, regsBy, predicateBy, memoriesBy}
-use Rattle.compute.specs.Faulting.{faults, kindOf, kindsOf, clear}
+use Rattle.compute.specs.Faulting.{noFaults, kindOf, kindsOf, clear}
 
 -- the faults, and what was lent as it is afterwards
 pub record Outcome : Type 0 where
@@ -56,4 +56,4 @@ inShape shape x regs =
 -- x carried out by the lanes t; out of shape it does nothing
 unfoldable pub carriedOf : Shape → Instr → ℕ → Lent → Outcome
 carriedOf shape x t m =
-    cond (inShape shape x (m .regs)) (havingRead shape x t (operandsOf shape x (m .regs)) m) (outcome (faults 0 0 0 0) m)
+    cond (inShape shape x (m .regs)) (havingRead shape x t (operandsOf shape x (m .regs)) m) (outcome noFaults m)

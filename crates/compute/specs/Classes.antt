@@ -7,12 +7,12 @@ use lib.ListN.{length, getD}
 use Rattle.words.specs.declared.instr.TwoOp.{TwoOp}
 use Rattle.words.specs.declared.instr.Space.{Space}
 use Rattle.compute.specs.declared.Shape.{Shape}
-use Rattle.compute.specs.declared.Faults.{Faults}
+use Rattle.compute.specs.declared.faults.Faults.{Faults}
 use Rattle.compute.specs.declared.memory.Change.{Change}
 use Rattle.compute.specs.Registers.{byLane, gatherOf, writeLanes}
 use Rattle.compute.specs.Memory.{Memories, memoryOf, addressesOf, changesOf, oldOf}
 use Rattle.compute.specs.Values.{changed}
-use Rattle.compute.specs.Faulting.{kindsOf, addressFault, divisorFault, faults, clear}
+use Rattle.compute.specs.Faulting.{kindsOf, addressFault, divisorFault, noFaults, clear}
 use Rattle.compute.specs.Lanewise.{twoLanes, loadLanes, changeTo}
 
 -- the answer is the faults, and what was lent is changed unless a lane faults
@@ -29,7 +29,7 @@ divisorFaults o shape regs b t = kindsOf (shape .width) t (λ i. divisorFault o 
 
 -- results that no fault stops, written to the registers d
 abbrev pub Writes : Shape → ℕ → ℕ → List ℕ → Faults → List ℕ → List ℕ → Type 0
-Writes shape t d results answer before after = Settled (faults 0 0 0 0) (writeLanes shape before d t results) answer before after
+Writes shape t d results answer before after = Settled noFaults (writeLanes shape before d t results) answer before after
 
 -- an operation on the registers a and b
 abbrev pub Computes : TwoOp → Shape → ℕ → ℕ → ℕ → ℕ → Faults → List ℕ → List ℕ → Type 0

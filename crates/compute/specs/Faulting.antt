@@ -1,6 +1,6 @@
 -- Faults, kind by kind and lane by lane. Page 01, "One step".
 use Prim.Native.Nat.{ℕ, _%_}
-use mathlib.Core.Bool.{Bool, not, _&&_, cond}
+use mathlib.Core.Bool.{Bool, true, not, _&&_, cond}
 use mathlib.Core.List.{List, [], _∷_}
 use lib.Dec.{eqb, leb}
 use lib.ListN.{length, getD}
@@ -10,7 +10,7 @@ use Rattle.words.specs.declared.instr.Op.{Op}
 use Rattle.words.specs.declared.instr.Space.{Space}
 use Rattle.words.specs.declared.instr.Instr.{Instr}
 use Rattle.arith.specs.Arith.{divides, addressOf}
-use Rattle.compute.specs.declared.Faults.{Faults}
+use Rattle.compute.specs.declared.faults.Faults.{Faults}
 use Rattle.compute.specs.Memory.{Memories, memoryOf, wordOf}
 use Rattle.compute.specs.Operands.{Operands}
 
@@ -51,32 +51,73 @@ faultBy (Op.Control o) x y a b = 0
 unfoldable pub faultLanes : ℕ → ℕ → (ℕ → ℕ) → ℕ → ℕ
 faultLanes W t kind k = setOf W (λ i. has t i && eqb (kind i) k)
 
--- kinds 1 to 4; kind 5 is not told lane by lane
-abbrev pub faults : ℕ → ℕ → ℕ → ℕ → Faults
-faults odd device local divisor =
-    record { odd = odd; device = device; local = local; divisor = divisor; barrier = 0 }
-
 -- lane i's kind, of what it read
 abbrev pub kindOf : Instr → Memories → Operands → ℕ → ℕ
 kindOf x y v i = faultBy (x .op) x y (getD (v .a) i 0) (getD (v .b) i 0)
 
--- every kind with its lanes
-abbrev pub kindsOf : ℕ → ℕ → (ℕ → ℕ) → Faults
-kindsOf W t kind = faults (faultLanes W t kind 1) (faultLanes W t kind 2) (faultLanes W t kind 3) (faultLanes W t kind 4)
-
--- no lane faults
-abbrev pub clear : Faults → Bool
-clear f = eqb (f .odd) 0 && eqb (f .device) 0 && eqb (f .local) 0 && eqb (f .divisor) 0 && eqb (f .barrier) 0
+-- ---- every kind
 
 -- a kind with its lanes
 pub record Fault : Type 0 where
   pub kind : ℕ
   pub lanes : ℕ
 
--- a kind is listed if it has a lane
-abbrev pub note : ℕ → ℕ → List Fault → List Fault
-note kind lanes rest = cond (eqb lanes 0) rest (record { kind = kind; lanes = lanes } ∷ rest)
+abbrev pub fault : ℕ → ℕ → Fault
+fault kind lanes = record { kind = kind; lanes = lanes }
 
--- the kinds in rising order, with the lanes of each
+-- how many kinds there are
+abbrev pub kinds : ℕ
+kinds = 5
+
+-- every kind with its lanes, in rising order
+abbrev pub every : Faults → List Fault
+every f = fault 1 (f .odd) ∷ fault 2 (f .device) ∷ fault 3 (f .local) ∷ fault 4 (f .divisor) ∷ fault 5 (f .barrier) ∷ []
+
+-- the faults whose lanes of kind k are `lanes k`
+abbrev pub ofKinds : (ℕ → ℕ) → Faults
+ofKinds lanes = record { odd = lanes 1; device = lanes 2; local = lanes 3; divisor = lanes 4; barrier = lanes 5 }
+
+-- no kind of a list has lanes; and so no lane faults
+abbrev pub noLanes : List Fault → Bool
+noLanes [] = true
+noLanes (x ∷ xs) = eqb (x .lanes) 0 && noLanes xs
+
+abbrev pub clear : Faults → Bool
+clear f = noLanes (every f)
+
+-- those of a list that have lanes
+abbrev pub withLanes : List Fault → List Fault
+withLanes [] = []
+withLanes (x ∷ xs) = cond (eqb (x .lanes) 0) (withLanes xs) (x ∷ withLanes xs)
+
+-- the kinds that have lanes, in rising order, with the lanes of each
 abbrev pub listed : Faults → List Fault
-listed f = note 1 (f .odd) (note 2 (f .device) (note 3 (f .local) (note 4 (f .divisor) (note 5 (f .barrier) []))))
+listed f = withLanes (every f)
+
+-- the lanes of kind k in a list; none where it has no such kind
+unfoldable pub lanesIn : ℕ → List Fault → ℕ
+lanesIn k [] = 0
+lanesIn k (x ∷ xs) = cond (eqb (x .kind) k) (x .lanes) (lanesIn k xs)
+
+abbrev pub lanesOfKind : ℕ → Faults → ℕ
+lanesOfKind k f = lanesIn k (every f)
+
+-- ---- the faults of what an instruction does
+
+abbrev pub noFaults : Faults
+noFaults = ofKinds (λ k. 0)
+
+-- of lanes that each have a kind
+abbrev pub kindsOf : ℕ → ℕ → (ℕ → ℕ) → Faults
+kindsOf W t kind = ofKinds (faultLanes W t kind)
+
+-- of addresses: the lanes whose address is not a multiple of 4, and those whose address is one and past the memory
+abbrev pub ofAddresses : Space → ℕ → ℕ → Faults
+ofAddresses s odd past = ofKinds (λ k. cond (eqb k 1) odd (cond (eqb k (pastKind s)) past 0))
+
+-- of divisors, and of a barrier
+abbrev pub ofDivisors : ℕ → Faults
+ofDivisors lanes = ofKinds (λ k. cond (eqb k 4) lanes 0)
+
+abbrev pub ofBarrier : ℕ → Faults
+ofBarrier lanes = ofKinds (λ k. cond (eqb k 5) lanes 0)

@@ -2,12 +2,12 @@
 ghost use Rattle.compute.specs.Registers.{Stands, writeLanes};
 ghost use Rattle.compute.specs.Memory.{memories, memoryOf};
 ghost use Rattle.compute.specs.Classes.{Settled, Writes, Computes, Loads, Stores, StoresIn, Changes};
-use crate::Faults;
 use crate::Shape;
 use crate::faulting::address_faults;
-use crate::faulting::clear;
 use crate::faulting::divisor_faults;
-use crate::faulting::no_faults;
+use crate::faults::Faults;
+use crate::faults::is_clear;
+use crate::faults::no_faults;
 use crate::memory::Change;
 use crate::memory::addresses;
 use crate::memory::change_lanes;
@@ -33,7 +33,7 @@ fn write_results(results: Results, t: Lanes, rd: u8, shape: Shape, regs: &mut [u
 {
     let value = results.value;
     let faults = results.faults;
-    if clear(faults) {
+    if is_clear(faults) {
         write_lanes(value, t, rd, shape, regs);
     }
     faults
@@ -109,7 +109,7 @@ fn store_through(
 {
     let at = addresses(shape, regs, rs1, offset);
     let faults = address_faults(space, at, memory.len(), t, shape.width);
-    if clear(faults) {
+    if is_clear(faults) {
         store_lanes(at, t, rd, shape, regs, memory);
     }
     faults
@@ -174,7 +174,7 @@ pub(crate) fn carry_change(
 {
     let at = gather(shape, regs, rs1);
     let faults = address_faults(Space::Device, at, device.len(), t, shape.width);
-    if clear(faults) {
+    if is_clear(faults) {
         let value = change_lanes(change, at, t, rs2, rs3, shape, regs, device);
         write_lanes(value, t, rd, shape, regs);
     }

@@ -3,44 +3,22 @@ ghost use mathlib.Core.Path.{_≡_};
 ghost use mathlib.Core.Bool.{not, _&&_};
 ghost use Prim.Native.Nat.{_%_, _≤_, min};
 ghost use lib.Dec.{eqb};
-ghost use lib.ListN.{getD};
+ghost use lib.ListN.{getD, take};
 ghost use Rattle.ground.specs.Tests.{allOf};
 ghost use Rattle.lanes.specs.Sets.{widest, has, setOf};
 ghost use Rattle.compute.specs.Registers.{Stands, gatherOf};
-ghost use Rattle.compute.specs.Faulting as kinds;
 ghost use Rattle.compute.specs.Faulting.{isOdd, isPast};
 ghost use Rattle.compute.specs.Classes.{addressFaults, divisorFaults};
-use crate::Faults;
 use crate::Shape;
+use crate::faults::Faults;
+use crate::faults::no_faults;
+use crate::faults::of_addresses;
+use crate::faults::of_divisors;
 use crate::masks::marked;
 use crate::registers::slot;
 use lanes::Lanes;
 use words::instr::Space;
 use words::instr::TwoOp;
-
-// No fault.
-pub(crate) fn no_faults() -> Faults
-    ensures { λ r. ⌜ r ≡ kinds.faults 0 0 0 0 ⌝ }
-{
-    Faults {
-        odd: 0,
-        device: 0,
-        local: 0,
-        divisor: 0,
-        barrier: 0,
-    }
-}
-
-// Whether no lane faults.
-pub(crate) fn clear(faults: Faults) -> bool
-    ensures { λ r. ⌜ r ≡ kinds.clear faults ⌝ }
-{
-    (faults.odd == 0)
-        & (faults.device == 0)
-        & (faults.local == 0)
-        & (faults.divisor == 0)
-        & (faults.barrier == 0)
-}
 
 // The lanes whose address is not a multiple of 4, and those whose address is one and past the memory.
 struct Access {
@@ -66,13 +44,15 @@ fn past_end(address: u32, words: u32) -> bool
     words <= address / 4
 }
 
-// Whether every address, those of the lanes that do not execute too, is a multiple of 4 and within a memory of so many words.
-fn all_reach(at: [u32; 32], words: u32) -> bool
-    ensures { λ r. ⌜ r ≡ allOf (λ address. eqb (address % 4) 0 && not (isPast words address)) at ⌝ }
+// Whether every lane's address, of the lanes that do not execute too, is a multiple of 4 and within a memory of so many words.
+fn all_reach(at: [u32; 32], words: u32, width: u32) -> bool
+    requires { ⌜ width ≤ widest ⌝ }
+    ensures { λ r. ⌜ r ≡ allOf (λ address. eqb (address % 4) 0 && not (isPast words address)) (take width at) ⌝ }
 {
+    let end = width as usize;
     let mut all = true;
     let mut k: usize = 0;
-    while k < 32 {
+    while k < end {
         let address = at[k];
         all = all & ((address % 4 == 0) & !past_end(address, words));
         k += 1;
@@ -112,26 +92,11 @@ pub(crate) fn address_faults(
     ensures { λ r. ⌜ r ≡ addressFaults space width at words t ⌝ }
 {
     let named = nameable(words);
-    if all_reach(at, named) {
+    if all_reach(at, named, width) {
         return no_faults();
     }
     let access = reach(at, named, t, width);
-    match space {
-        Space::Device => Faults {
-            odd: access.odd,
-            device: access.past,
-            local: 0,
-            divisor: 0,
-            barrier: 0,
-        },
-        Space::Local => Faults {
-            odd: access.odd,
-            device: 0,
-            local: access.past,
-            divisor: 0,
-            barrier: 0,
-        },
-    }
+    of_addresses(space, access.odd, access.past)
 }
 
 // The lanes of `t` whose register is zero.
@@ -156,13 +121,7 @@ pub(crate) fn divisor_faults(op: TwoOp, t: Lanes, shape: Shape, regs: &[u32], rs
     ensures { λ r. ⌜ r ≡ divisorFaults op shape (now (regs .entry)) rs2 t ⌝ }
 {
     if arith::division::divides(op) {
-        return Faults {
-            odd: 0,
-            device: 0,
-            local: 0,
-            divisor: zero_lanes(t, shape, regs, rs2),
-            barrier: 0,
-        };
+        return of_divisors(zero_lanes(t, shape, regs, rs2));
     }
     no_faults()
 }

@@ -4,6 +4,7 @@ mod classes;
 mod comparisons;
 mod constants;
 mod faulting;
+pub mod faults;
 mod masks;
 mod memory;
 mod one_operand;
@@ -25,7 +26,8 @@ use crate::comparisons::compare_results;
 use crate::comparisons::predicate_after;
 use crate::constants::number_results;
 use crate::constants::special_results;
-use crate::faulting::no_faults;
+use crate::faults::Faults;
+use crate::faults::no_faults;
 use crate::memory::Change;
 use crate::one_operand::one_results;
 use lanes::Lanes;
@@ -38,16 +40,6 @@ use words::registers::registers_below;
 pub struct Shape {
     pub width: u32,
     pub registers: u32,
-}
-
-// The lanes of each kind of fault: 1 an address that is not a multiple of 4, 2 device and 3 local address past the memory, 4 a divisor
-// of zero, 5 a barrier that some lane has not reached.
-pub struct Faults {
-    pub odd: Lanes,
-    pub device: Lanes,
-    pub local: Lanes,
-    pub divisor: Lanes,
-    pub barrier: Lanes,
 }
 
 // The faults, and the predicate that RD names as it is afterwards.

@@ -12,7 +12,7 @@ use Rattle.ground.proofs.Bools.{never}
 use Rattle.ground.proofs.Tests.{false-of}
 use Rattle.key.specs.Body.{Parts, bytesOfBody}
 use Rattle.key.specs.Layout.{fitsLayout, short, notOfLayout}
-use Rattle.compute.specs.declared.Faults.{Faults}
+use Rattle.compute.specs.declared.faults.Faults.{Faults}
 use Rattle.replay.specs.declared.answers.Outcome.{Outcome}
 use Rattle.replay.specs.declared.answers.Replayed.{Replayed}
 use Rattle.keys.specs.declared.answer.KeyAnswer.{KeyAnswer}

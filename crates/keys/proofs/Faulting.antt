@@ -18,20 +18,22 @@ use Rattle.wave.proofs.Keeps.{active-launched}
 use Rattle.wave.proofs.Laying.{length-array}
 use Rattle.wave.proofs.Stays.{path-room}
 use Rattle.wave.proofs.OpenBlocks.{AllSized, path-sized}
-use Rattle.compute.specs.declared.Faults.{Faults}
+use Rattle.compute.specs.declared.faults.Faults.{Faults}
+use Rattle.compute.specs.Faulting.{lanesOfKind}
+use Rattle.compute.proofs.FaultLanes.{Apart}
 use Rattle.replay.specs.declared.settings.Settings.{Settings}
 use Rattle.replay.specs.Machine.{Machine}
 use Rattle.replay.specs.Replay.{mostWords}
 use Rattle.replay.proofs.Keeping.{inside}
 use Rattle.replay.proofs.Stopping.{FaultsAt}
-use Rattle.replay.proofs.FaultKinds.{Faulty, step-faulty, FaultLanes, step-lanes}
+use Rattle.replay.proofs.FaultKinds.{Faulty, step-faulty, step-apart, Lanes, step-lanes}
 use Rattle.replay.proofs.Returns.{Launchable, lanes-most, InOrder}
 use Rattle.key.specs.Body.{numbersOf}
 use Rattle.key.specs.Layout.{mostDepth, blockFits, fitsLayout}
 use Rattle.key.proofs.Starts.{of-fits}
 use Rattle.keys.specs.Key.{partsOf}
 use Rattle.keys.proofs.Bodies.{head-small, state-small, put-small}
-use Rattle.keys.proofs.Kinding.{small-noted, small-kinds}
+use Rattle.keys.proofs.Kinding.{small-kinds}
 use Rattle.keys.proofs.KindsFit.{kinds-fit}
 use Rattle.keys.proofs.BlocksFit.{path-small, all-fit}
 use Rattle.keys.proofs.Paths.{length-blocks, blocks-path}
@@ -47,8 +49,12 @@ module _ (s : Settings) (code : List ℕ) (l : Launchable s code) (m : Machine) 
   faulty : Faulty f
   faulty = subst Faulty (sym (x .faults)) (step-faulty s (instrAt code (m .wave .place)) m)
 
-  lanes : FaultLanes (m .wave .active) f
-  lanes = subst (FaultLanes (m .wave .active)) (sym (x .faults)) (step-lanes s (instrAt code (m .wave .place)) m)
+  none-twice : Apart f
+  none-twice = subst Apart (sym (x .faults)) (step-apart s (instrAt code (m .wave .place)) m)
+
+  lanes : (k : ℕ) → Lanes (m .wave .active) (lanesOfKind k f)
+  lanes k =
+      subst (λ (g : Faults). Lanes (m .wave .active) (lanesOfKind k g)) (sym (x .faults)) (step-lanes s (instrAt code (m .wave .place)) m k)
 
   -- a set of active lanes, and the halted lanes
   active-small : (set : ℕ) → ((i : ℕ) → bit set i ≤ bit (m .wave .active) i) → set < bound
@@ -77,11 +83,7 @@ module _ (s : Settings) (code : List ℕ) (l : Launchable s code) (m : Machine) 
   machine-small k =
       put-small kernel f (stateOf (m .wave) (m .preds))
       (head-small kernel (m .wave .place) f k (omega (arith, there, few-words))
-      (small-kinds f (small-noted 1 (f .odd) (omega arith) (active-small (f .odd) (lanes .odd)))
-      (small-noted 2 (f .device) (omega arith) (active-small (f .device) (lanes .device)))
-      (small-noted 3 (f .local) (omega arith) (active-small (f .local) (lanes .local)))
-      (small-noted 4 (f .divisor) (omega arith) (active-small (f .divisor) (lanes .divisor)))
-      (small-noted 5 (f .barrier) (omega arith) (active-small (f .barrier) (lanes .barrier)))))
+      (small-kinds f (λ k. active-small (lanesOfKind k f) (lanes k))))
       (state-small (stateOf (m .wave) (m .preds)) room (length-array (m .wave .path) room)
       (active-small (m .wave .active) (λ i. omega arith)) halted-small (path-small (length code) few-words (m .wave .path) blocks-sized))
 
@@ -92,7 +94,7 @@ module _ (s : Settings) (code : List ℕ) (l : Launchable s code) (m : Machine) 
       of-fits (partsOf kernel f (stateOf (m .wave) (m .preds)))
       (record {
         place = omega (arith, there, few-words);
-        faults = kinds-fit f faulty (x .unclear);
+        faults = kinds-fit f faulty none-twice (x .unclear);
         depth = omega (arith, length-blocks (stateOf (m .wave) (m .preds)), room);
         blocks = ap (allOf blockFits) (blocks-path (m .wave) (m .preds)) ∙ all-fit (length code) few-words (m .wave .path) blocks-sized;
       })

@@ -1,22 +1,34 @@
--- The fault kinds: how many have lanes, and the numbers of those that have. Each kind is looked at by itself.
-use mathlib.Core.Path.{_≡_, refl, sym, ap, ap₂, _∙_}
-use Prim.Native.Nat.{ℕ, _+_, _*_, _≤_, _<_}
+-- The fault kinds: how many have lanes, and the numbers of those that have, kind after kind as the loops go.
+use mathlib.Core.Path.{_≡_, refl, sym, ap, ap₂, _∙_, subst}
+use Prim.Native.Nat.{ℕ, zero, suc, _+_, _-_, _*_, _≤_, _<_}
 use mathlib.Core.Bool.{Bool, true, false, cond}
-use mathlib.Core.List.{List, [], _∷_, _++_, append-nil, map, flatMap}
+use mathlib.Core.List.{List, [], _∷_, _++_, append-nil, append-assoc, map, flatMap}
+use native.Mathlib.Numerals.{add-one}
 use native.Mathlib.Omega.{arith}
 use borrow.Author.Tests.{eq-eqb, ne-eqb}
 use lib.Dec.{eqb}
-use lib.ListN.{length, length-append}
+use lib.ListN.{length, length-append, length-map}
 use Rattle.numbers.specs.Numbers.{bytesOf, bytesOfAll, bound, Small}
 use Rattle.numbers.specs.Placed.{placed}
 use Rattle.numbers.proofs.Numerals.{small-nil, small-cons, small-append}
 use Rattle.numbers.proofs.Placing.{placed-nil}
 use Rattle.numbers.proofs.Behind.{behind, one-number, behind-one}
 use Rattle.key.specs.Body.{twoOf}
-use Rattle.compute.specs.declared.Faults.{Faults}
-use Rattle.compute.specs.Faulting.{Fault, note}
+use Rattle.compute.specs.declared.faults.Faults.{Faults}
+use Rattle.compute.specs.Faulting.{Fault, fault, kinds, every, withLanes, listed, lanesOfKind}
+use Rattle.compute.proofs.EveryKind.{upFrom, table, every-table, few-listed}
 use Rattle.keys.specs.Key.{faultOf, kindsOf}
-use Rattle.keys.specs.Putting.{After, after, afterNumbers, noted, kindNumbers}
+use Rattle.keys.specs.Putting.{kindsPlace, After, after, afterNumbers, noted, kindNumbers}
+
+-- ---- the kinds from k on
+
+abbrev pub from : ℕ → Faults → List Fault
+from k f = table (λ j. lanesOfKind j f) (upFrom k (suc kinds - k))
+
+from-next : (f : Faults) (k : ℕ) → k ≤ kinds → from k f ≡ fault k (lanesOfKind k f) ∷ from (suc k) f
+from-next f k h =
+    let e : suc kinds - k ≡ suc (suc kinds - suc k) = omega arith in
+    ap (λ (c : ℕ). table (λ j. lanesOfKind j f) (upFrom k c)) e
 
 -- ---- the count
 
@@ -24,38 +36,44 @@ count-test : (t : Bool) (f : Fault) (rest : List Fault) → length (map faultOf 
 count-test true f rest = omega arith
 count-test false f rest = omega arith
 
--- one for each kind that has lanes
-pub count-kinds : (f : Faults) (a b c d e : ℕ) → a ≡ cond (eqb (f .odd) 0) 0 1 → b ≡ cond (eqb (f .device) 0) 0 1 → c ≡ cond (eqb (f .local) 0) 0 1
-    → d ≡ cond (eqb (f .divisor) 0) 0 1 → e ≡ cond (eqb (f .barrier) 0) 0 1 → a + b + c + d + e ≡ length (kindsOf f)
+-- at most every kind
+pub few-kinds : (f : Faults) → length (kindsOf f) ≤ kinds
 unfolding kindsOf
-count-kinds f a b c d e ea eb ec ed ee =
-    let n5 = note 5 (f .barrier) [] in
-    let n4 = note 4 (f .divisor) n5 in
-    let n3 = note 3 (f .local) n4 in
-    let n2 = note 2 (f .device) n3 in
-    let k5 = count-test (eqb (f .barrier) 0) (record { kind = 5; lanes = f .barrier }) [] in
-    let k4 = count-test (eqb (f .divisor) 0) (record { kind = 4; lanes = f .divisor }) n5 in
-    let k3 = count-test (eqb (f .local) 0) (record { kind = 3; lanes = f .local }) n4 in
-    let k2 = count-test (eqb (f .device) 0) (record { kind = 2; lanes = f .device }) n3 in
-    let k1 = count-test (eqb (f .odd) 0) (record { kind = 1; lanes = f .odd }) n2 in
-    omega arith
+few-kinds f = omega (arith, length-map (listed f) faultOf, few-listed f)
 
-few-test : (t : Bool) → cond t 0 1 ≤ 1
-few-test true = omega arith
-few-test false = omega arith
+-- kinds are counted up to k, and those from k on are left
+pub record Counting (f : Faults) (count k : ℕ) : Type 0 where
+  pub least : 1 ≤ k
+  pub most : k ≤ suc kinds
+  pub below : count < k
+  pub left : count + length (map faultOf (withLanes (from k f))) ≡ length (kindsOf f)
 
--- at most five
-pub few-kinds : (f : Faults) → length (kindsOf f) ≤ 5
-few-kinds f =
-    omega (
-      arith,
-      count-kinds f _ _ _ _ _ refl refl refl refl refl,
-      few-test (eqb (f .odd) 0),
-      few-test (eqb (f .device) 0),
-      few-test (eqb (f .local) 0),
-      few-test (eqb (f .divisor) 0),
-      few-test (eqb (f .barrier) 0),
-    )
+pub count-none : (f : Faults) → Counting f 0 1
+unfolding kindsOf
+count-none f =
+    record {
+      least = omega arith;
+      most = omega arith;
+      below = omega arith;
+      left = omega (arith, ap (λ (xs : List Fault). length (map faultOf (withLanes xs))) (every-table f));
+    }
+
+pub count-next : (f : Faults) (count k one : ℕ) → Counting f count k → k ≤ kinds → one ≡ cond (eqb (lanesOfKind k f) 0) 0 1 → one ≤ 1
+    → Counting f (count + one) (k + 1)
+count-next f count k one c h e o =
+    let n = ap (λ (xs : List Fault). length (map faultOf (withLanes xs))) (from-next f k h) in
+    let t = count-test (eqb (lanesOfKind k f) 0) (fault k (lanesOfKind k f)) (withLanes (from (suc k) f)) in
+    let b = c .below in
+    let w = c .left in
+    rw add-one
+    (record { least = omega arith; most = omega arith; below = omega arith; left = omega (arith, n, t, e, w) })
+
+pub count-all : (f : Faults) (count k : ℕ) → Counting f count k → kinds < k → count ≡ length (kindsOf f)
+count-all f count k c h =
+    let e : k ≡ suc kinds = omega (arith, c .most) in
+    let w : count + length (map faultOf (withLanes (from (suc kinds) f))) ≡ length (kindsOf f) =
+    subst (λ (j : ℕ). count + length (map faultOf (withLanes (from j f))) ≡ length (kindsOf f)) e (c .left) in
+    omega (arith, w)
 
 -- ---- the numbers
 
@@ -66,28 +84,10 @@ numbers-test true k l rest = refl
 numbers-test false k l rest = refl
 
 -- the numbers of a kind, and then those of the rest
-numbers-note : (k l : ℕ) (rest : List Fault) → flatMap twoOf (map faultOf (note k l rest)) ≡ noted k l ++ flatMap twoOf (map faultOf rest)
+numbers-with : (k l : ℕ) (rest : List Fault)
+    → flatMap twoOf (map faultOf (withLanes (fault k l ∷ rest))) ≡ noted k l ++ flatMap twoOf (map faultOf (withLanes rest))
 unfolding noted
-numbers-note k l rest = numbers-test (eqb l 0) k l rest
-
--- kind by kind
-pub kind-numbers : (f : Faults)
-    → noted 1 (f .odd) ++ (noted 2 (f .device) ++ (noted 3 (f .local) ++ (noted 4 (f .divisor) ++ noted 5 (f .barrier)))) ≡ kindNumbers f
-unfolding kindNumbers kindsOf flatMap
-kind-numbers f =
-    let n5 = note 5 (f .barrier) [] in
-    let n4 = note 4 (f .divisor) n5 in
-    let n3 = note 3 (f .local) n4 in
-    let n2 = note 2 (f .device) n3 in
-    let k5 : flatMap twoOf (map faultOf n5) ≡ noted 5 (f .barrier) = numbers-note 5 (f .barrier) [] ∙ append-nil (noted 5 (f .barrier)) in
-    sym
-    (numbers-note 1 (f .odd) n2
-    ∙ ap (λ (l : List ℕ). noted 1 (f .odd) ++ l)
-    (numbers-note 2 (f .device) n3
-    ∙ ap (λ (l : List ℕ). noted 2 (f .device) ++ l)
-    (numbers-note 3 (f .local) n4
-    ∙ ap (λ (l : List ℕ). noted 3 (f .local) ++ l)
-    (numbers-note 4 (f .divisor) n5 ∙ ap (λ (l : List ℕ). noted 4 (f .divisor) ++ l) k5))))
+numbers-with k l rest = numbers-test (eqb l 0) k l (withLanes rest)
 
 -- numbers behind numbers, and the place behind them all
 after-behind : (ms ns o o₁ o₂ : List ℕ) (p q r : ℕ) → after q o₁ ≡ afterNumbers ms p o → after r o₂ ≡ afterNumbers ns q o₁
@@ -99,18 +99,6 @@ after-behind ms ns o o₁ o₂ p q r a b =
     let y : r ≡ q + 4 * length ns = ap (λ (z : After). z .place) b in
     let k : r ≡ p + 4 * length (ms ++ ns) = omega arith in
     ap₂ after k (behind ms ns o o₁ o₂ p q x (ap (λ (z : After). z .out) a) (ap (λ (z : After). z .out) b))
-
--- five kinds that were put one behind another
-pub five-kinds : (f : Faults) (o o₁ o₂ o₃ o₄ o₅ : List ℕ) (at p₁ p₂ p₃ p₄ p₅ : ℕ) → after p₁ o₁ ≡ afterNumbers (noted 1 (f .odd)) at o
-    → after p₂ o₂ ≡ afterNumbers (noted 2 (f .device)) p₁ o₁ → after p₃ o₃ ≡ afterNumbers (noted 3 (f .local)) p₂ o₂
-    → after p₄ o₄ ≡ afterNumbers (noted 4 (f .divisor)) p₃ o₃ → after p₅ o₅ ≡ afterNumbers (noted 5 (f .barrier)) p₄ o₄
-    → after p₅ o₅ ≡ afterNumbers (kindNumbers f) at o
-five-kinds f o o₁ o₂ o₃ o₄ o₅ at p₁ p₂ p₃ p₄ p₅ e₁ e₂ e₃ e₄ e₅ =
-    after-behind (noted 1 (f .odd)) _ o o₁ o₅ at p₁ p₅ e₁
-    (after-behind (noted 2 (f .device)) _ o₁ o₂ o₅ p₁ p₂ p₅ e₂
-    (after-behind (noted 3 (f .local)) _ o₂ o₃ o₅ p₂ p₃ p₅ e₃
-    (after-behind (noted 4 (f .divisor)) (noted 5 (f .barrier)) o₃ o₄ o₅ p₃ p₄ p₅ e₄ e₅)))
-    ∙ ap (λ (ns : List ℕ). afterNumbers ns at o) (kind-numbers f)
 
 -- ---- one kind, put
 
@@ -130,14 +118,6 @@ noted-test : (t : Bool) (k l : ℕ) → length (cond t [] (k ∷ l ∷ [])) ≤ 
 noted-test true k l = omega arith
 noted-test false k l = omega arith
 
--- a kind takes at most eight bytes
-pub kind-place : (k l at r : ℕ) (o o₁ : List ℕ) → after r o₁ ≡ afterNumbers (noted k l) at o → r ≤ at + 8
-unfolding afterNumbers noted
-kind-place k l at r o o₁ e =
-    let x : r ≡ at + 4 * length (noted k l) = ap (λ (z : After). z .place) e in
-    let y : length (noted k l) ≤ 2 = noted-test (eqb l 0) k l in
-    omega arith
-
 -- ---- their size
 
 small-test : (t : Bool) (k l : ℕ) → k < bound → l < bound → Small (cond t [] (k ∷ l ∷ []))
@@ -148,11 +128,82 @@ pub small-noted : (k l : ℕ) → k < bound → l < bound → Small (noted k l)
 unfolding noted
 small-noted k l a b = small-test (eqb l 0) k l a b
 
-pub small-kinds : (f : Faults) → Small (noted 1 (f .odd)) → Small (noted 2 (f .device)) → Small (noted 3 (f .local)) → Small (noted 4 (f .divisor))
-    → Small (noted 5 (f .barrier)) → Small (kindNumbers f)
-small-kinds f a b c d e =
-    rw (← (kind-numbers f))
-    (small-append (noted 1 (f .odd)) _ a
-    (small-append (noted 2 (f .device)) _ b
-    (small-append (noted 3 (f .local)) _ c
-    (small-append (noted 4 (f .divisor)) (noted 5 (f .barrier)) d e))))
+small-table : (lanes : ℕ → ℕ) → ((k : ℕ) → lanes k < bound) → (n c : ℕ) → n + c ≤ bound
+    → Small (flatMap twoOf (map faultOf (withLanes (table lanes (upFrom n c)))))
+unfolding flatMap
+small-table lanes h n zero b = small-nil
+small-table lanes h n (suc c) b =
+    rw (numbers-with n (lanes n) (table lanes (upFrom (suc n) c)))
+    (small-append (noted n (lanes n)) _ (small-noted n (lanes n) (omega arith) (h n)) (small-table lanes h (suc n) c (omega arith)))
+
+-- where the lanes of every kind are below 2^32
+pub small-kinds : (f : Faults) → ((k : ℕ) → lanesOfKind k f < bound) → Small (kindNumbers f)
+unfolding kindNumbers kindsOf
+small-kinds f h =
+    subst (λ (xs : List Fault). Small (flatMap twoOf (map faultOf (withLanes xs)))) (sym (every-table f))
+    (small-table (λ k. lanesOfKind k f) h 1 kinds (omega arith))
+
+-- ---- the kinds below k have been put, and the loop stands behind them
+
+pub record Kept (f : Faults) (o₀ o : List ℕ) (at k : ℕ) : Type 0 where
+  pub least : 1 ≤ k
+  pub most : k ≤ suc kinds
+  pub done : List ℕ
+  pub few : length done ≤ 2 * (k - 1)
+  pub small : Small done
+  pub stands : after at o ≡ afterNumbers done kindsPlace o₀
+  pub whole : done ++ flatMap twoOf (map faultOf (withLanes (from k f))) ≡ kindNumbers f
+
+pub kept-none : (f : Faults) (o : List ℕ) → Kept f o o kindsPlace 1
+unfolding kindNumbers kindsOf noted
+kept-none f o =
+    record {
+      least = omega arith;
+      most = omega arith;
+      done = [];
+      few = omega arith;
+      small = small-nil;
+      stands = no-kind 1 0 kindsPlace o refl;
+      whole = ap (λ (xs : List Fault). flatMap twoOf (map faultOf (withLanes xs))) (sym (every-table f));
+    }
+
+pub kept-place : {f : Faults} {o₀ o : List ℕ} {at k : ℕ} → Kept f o₀ o at k → at ≤ kindsPlace + 8 * (k - 1)
+unfolding afterNumbers
+kept-place h = omega (arith, ap (λ (z : After). z .place) (h .stands), h .few)
+
+pub kept-next : (f : Faults) (o₀ o o₁ : List ℕ) (at at₁ k : ℕ) → Kept f o₀ o at k → k ≤ kinds
+    → after at₁ o₁ ≡ afterNumbers (noted k (lanesOfKind k f)) at o → Small (noted k (lanesOfKind k f)) → Kept f o₀ o₁ at₁ (k + 1)
+unfolding noted
+kept-next f o₀ o o₁ at at₁ k h b e s =
+    let l = lanesOfKind k f in
+    let n = noted k l in
+    let y : length n ≤ 2 = noted-test (eqb l 0) k l in
+    let w = length-append (h .done) n in
+    let d = h .few in
+    let m = h .least in
+    let rest = flatMap twoOf (map faultOf (withLanes (from (suc k) f))) in
+    rw add-one
+    (record {
+      least = omega arith;
+      most = omega arith;
+      done = h .done ++ n;
+      few = omega (arith, w, y, d, m);
+      small = small-append (h .done) n (h .small) s;
+      stands = after-behind (h .done) n o₀ o o₁ kindsPlace at at₁ (h .stands) e;
+      whole =
+          append-assoc (h .done) n rest
+          ∙ ap (λ (r : List ℕ). h .done ++ r) (sym (numbers-with k l (from (suc k) f)))
+          ∙ ap (λ (xs : List Fault). h .done ++ flatMap twoOf (map faultOf (withLanes xs))) (sym (from-next f k b))
+          ∙ h .whole;
+    })
+
+pub kept-all : (f : Faults) (o₀ o : List ℕ) (at k : ℕ) → Kept f o₀ o at k → kinds < k
+    → (after at o ≡ afterNumbers (kindNumbers f) kindsPlace o₀) × Small (kindNumbers f)
+unfolding flatMap
+kept-all f o₀ o at k h b =
+    let e : k ≡ suc kinds = omega (arith, h .most) in
+    let d : h .done ≡ kindNumbers f =
+    sym (append-nil (h .done))
+    ∙ ap (λ (j : ℕ). h .done ++ flatMap twoOf (map faultOf (withLanes (from j f)))) (sym e)
+    ∙ h .whole in
+    (h .stands ∙ ap (λ (ns : List ℕ). afterNumbers ns kindsPlace o₀) d, subst Small d (h .small))

@@ -18,7 +18,7 @@ use Rattle.key.specs.Body.{Parts, numbersOf, bytesOfBody}
 use Rattle.key.specs.Layout.{fitsLayout, isBody, short, notOfLayout}
 use Rattle.key.proofs.Written.{one-body, written-body}
 use Rattle.wave.specs.declared.state.State.{State}
-use Rattle.compute.specs.declared.Faults.{Faults}
+use Rattle.compute.specs.declared.faults.Faults.{Faults}
 use Rattle.replay.specs.declared.answers.Outcome.{Outcome}
 use Rattle.replay.specs.declared.answers.Replayed.{Replayed}
 use Rattle.keys.specs.declared.answer.KeyAnswer.the-variants.{Wrote, Refused}

@@ -10,7 +10,7 @@ use Rattle.key.specs.Layout.{fitsLayout, short, notOfLayout}
 use Rattle.wave.specs.declared.state.Block.{Block as OpenBlock}
 use Rattle.wave.specs.declared.state.State.{State}
 use Rattle.wave.specs.Layout.{opened}
-use Rattle.compute.specs.declared.Faults.{Faults}
+use Rattle.compute.specs.declared.faults.Faults.{Faults}
 use Rattle.compute.specs.Faulting.{Fault as KindLanes, listed}
 use Rattle.replay.specs.declared.answers.Outcome.{Outcome}
 use Rattle.replay.specs.declared.answers.Replayed.{Replayed}

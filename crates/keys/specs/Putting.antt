@@ -8,23 +8,24 @@ use lib.ListN.{length, take}
 use Rattle.numbers.specs.Numbers.{bytesOfAll, Small}
 use Rattle.numbers.specs.Placed.{placed}
 use Rattle.key.specs.Body.{Parts, twoOf, sixOf, numbersOf, bytesOfBody}
-use Rattle.key.specs.Layout.{sizeAt, startsBody, short, notOfLayout}
+use Rattle.key.specs.Layout.{mostDepth, faultBytes, blockBytes, headBytes, sizeAt, startsBody, short, notOfLayout}
 use Rattle.wave.specs.declared.state.State.{State}
-use Rattle.compute.specs.declared.Faults.{Faults}
+use Rattle.compute.specs.declared.faults.Faults.{Faults}
+use Rattle.compute.specs.Faulting.{kinds}
 use Rattle.keys.specs.declared.answer.KeyAnswer.the-variants.{Wrote, Refused}
 use Rattle.keys.specs.Key.{kindsOf, blocksOf, Keying, keyed}
 
--- the bytes of five fault kinds and 32 blocks: more than any body of the layout has
+-- the bytes of every fault kind and 32 blocks: more than any body of the layout has
 abbrev pub room : ℕ
-room = 832
+room = headBytes + faultBytes * kinds + blockBytes * mostDepth
 
 -- where the fault kinds stand, behind kernel number, place and count
 abbrev pub kindsPlace : ℕ
 kindsPlace = 12
 
--- the place behind five of them
+-- the place behind all of them
 abbrev pub kindsEnd : ℕ
-kindsEnd = 52
+kindsEnd = kindsPlace + faultBytes * kinds
 
 -- a place in a buffer, and what the buffer holds
 pub record After : Type 0 where

@@ -1,5 +1,7 @@
 // Putting a body's numbers into a buffer, one behind another.
-use compute::Faults;
+use compute::faults::Faults;
+use compute::faults::KINDS;
+use compute::faults::lanes_of_kind;
 use lanes::Lanes;
 use numbers::put;
 use wave::state::BLOCK_NUMBERS;
@@ -30,11 +32,13 @@ fn kinds_of(lanes: Lanes) -> u32
 fn count_of(f: Faults) -> u32
     ensures { λ r. ⌜ r ≡ length (kindsOf f) ⌝ }
 {
-    kinds_of(f.odd)
-        + kinds_of(f.device)
-        + kinds_of(f.local)
-        + kinds_of(f.divisor)
-        + kinds_of(f.barrier)
+    let mut count: u32 = 0;
+    let mut kind: usize = 1;
+    while kind <= KINDS {
+        count += kinds_of(lanes_of_kind(kind, f));
+        kind += 1;
+    }
+    count
 }
 
 // Puts a kind and its lanes, where there are any, into `out` from `at` on, and answers the place behind them.
@@ -54,11 +58,13 @@ fn put_kind(kind: u32, lanes: Lanes, at: usize, out: &mut [u8]) -> usize
 fn put_kinds(f: Faults, out: &mut [u8]) -> usize
     ensures { λ r. ⌜ (after r (now (out .exit)) ≡ afterNumbers (kindNumbers f) kindsPlace (now (out .entry))) × Small (kindNumbers f) ⌝ }
 {
-    let odd = put_kind(1, f.odd, KINDS_PLACE, out);
-    let device = put_kind(2, f.device, odd, out);
-    let local = put_kind(3, f.local, device, out);
-    let divisor = put_kind(4, f.divisor, local, out);
-    put_kind(5, f.barrier, divisor, out)
+    let mut at = KINDS_PLACE;
+    let mut kind: usize = 1;
+    while kind <= KINDS {
+        at = put_kind(kind as u32, lanes_of_kind(kind, f), at, out);
+        kind += 1;
+    }
+    at
 }
 
 // Puts numbers into `out` from `at` on.

@@ -1,7 +1,7 @@
 // Writing a key.
 use crate::answer::KeyAnswer;
 use crate::putting::put_body;
-use compute::Faults;
+use compute::faults::Faults;
 use key::BodyAnswer;
 use key::NOT_OF_LAYOUT;
 use key::SHORT;
@@ -15,7 +15,7 @@ ghost use mathlib.Core.Path.{_≡_};
 ghost use Rattle.keys.specs.Key.{keyed, partsOf, bodyKey, keyOf};
 ghost use Rattle.keys.specs.Putting.{copied};
 
-// The bytes of five fault kinds and 32 blocks: room for what any state says, of the layout or not.
+// The bytes of every fault kind and 32 blocks: room for what any state says, of the layout or not.
 const ROOM: usize = 832;
 
 // Copies the body that `bytes` start with to the front of `out`, and answers its length.

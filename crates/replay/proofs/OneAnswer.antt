@@ -1,10 +1,7 @@
 -- Any two answers, with the later contents of what was lent, that the promise of a way into the replay allows are equal.
 use mathlib.Core.Path.{_≡_, sym, ap, _∙_}
-use mathlib.Core.Bool.{Bool}
 use mathlib.Core.List.{List}
 use Prim.Native.Nat.{ℕ}
-use Rattle.compute.specs.declared.Faults.{Faults}
-use Rattle.compute.specs.Faulting.{clear}
 use Rattle.compute.specs.Memory.{Memories}
 use Rattle.replay.specs.declared.answers.Replayed.{Replayed}
 use Rattle.replay.specs.Replay.{Answered, answered}
@@ -21,6 +18,3 @@ one-answer x r q regs regs′ device device′ local local′ e f =
     let same = e ∙ sym f in
     let memories = ap (λ (a : Answered). a .memories) same in
     (ap back same, ap (λ (a : Answered). a .regs) same, ap (λ (y : Memories). y .device) memories, ap (λ (y : Memories). y .local) memories)
-
-pub is-clear-once : (f : Faults) (r q : Bool) → r ≡ clear f → q ≡ clear f → r ≡ q
-is-clear-once f r q e g = e ∙ sym g

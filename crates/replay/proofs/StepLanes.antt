@@ -2,30 +2,29 @@
 use Prim.Native.Nat.{ℕ, zero, suc, _≤_, _<_}
 use native.Mathlib.Omega.{arith}
 use mathlib.Core.Path.{_≡_, refl, ap, _∙_}
-use mathlib.Core.Bool.{true, _&&_}
+use mathlib.Core.Bool.{true}
 use lib.Dec.{eqb}
 use lib.ListN.{length, getD}
-use borrow.Author.Tests.{eq-eqb}
-use Rattle.ground.proofs.Bools.{and-left, and-both}
 use Rattle.lanes.specs.Sets.{has}
 use Rattle.words.specs.declared.instr.Op.{Op}
 use Rattle.words.specs.declared.instr.Space.{Space}
 use Rattle.words.specs.declared.instr.Instr.{Instr}
+use Rattle.words.specs.declared.fetching.ControlIn.{ControlIn}
 use Rattle.words.specs.Fetching.{controlIn}
+use Rattle.words.proofs.Fetches.{control-is}
 use Rattle.wave.specs.Wave.{Preds}
 use Rattle.compute.specs.declared.Shape.{Shape}
-use Rattle.compute.specs.declared.Faults.{Faults}
 use Rattle.compute.specs.Memory.{memoryOf, wordOf}
 use Rattle.compute.specs.Operands.{Lent}
 use Rattle.compute.specs.Values.{register as to-register, predicate as to-predicate, targetBy}
 use Rattle.compute.specs.Faulting.{clear}
-use Rattle.compute.specs.Carrying.{Outcome, inShape, faultsOf}
+use Rattle.compute.specs.Carrying.{Outcome, inShape}
 use Rattle.compute.specs.Results.{register, rdOf, reachOf, resultOf, Changes}
-use Rattle.compute.proofs.Carrying.{carried-by}
+use Rattle.compute.proofs.Carrying.{control}
 use Rattle.compute.proofs.LaneByLane.{others-as-before, result-in-rd, bit-in-predicate, memory-as-before, highest-stays, word-as-before}
 use Rattle.replay.specs.declared.settings.Settings.{Settings}
 use Rattle.replay.specs.Machine.{Machine, named, withNamed}
-use Rattle.replay.specs.Step.{shapeOf, launchedOf, lanesOf, computed, barrierBy, carriedBy, stepOf}
+use Rattle.replay.specs.Step.{shapeOf, launchedOf, lanesOf, computed, faultsBy, carriedBy, stepOf}
 use Rattle.replay.specs.Running.{lentOf}
 
 -- a predicate that was given lanes has them
@@ -47,10 +46,11 @@ module _ (s : Settings) (x : Instr) (m : Machine) where
   abbrev shape : Shape
   shape = shapeOf s
 
-  -- no fault of a barrier is told lane by lane
-  no-barrier : computed s x t m .faults .barrier ≡ 0
-  unfolding faultsOf
-  no-barrier = carried-by shape x t lent (λ (o : Outcome). o .faults .barrier ≡ 0) (λ e. refl) refl
+  -- where no lane faults, the lanes' work doesn't: that of a control instruction never does
+  work-clear : (c : ControlIn) → controlIn (x .op) ≡ c → clear (faultsBy c (launchedOf s) (m .wave) (computed s x t m .faults)) ≡ true
+      → clear (computed s x t m .faults) ≡ true
+  work-clear (ControlIn.Control o) e h = ap (λ (y : Outcome). clear (y .faults)) (control shape x t lent o (control-is (x .op) o e))
+  work-clear ControlIn.Other e h = h
 
   module _ (unfaulted : clear (stepOf s x m .faults) ≡ true) where
     goes : stepOf s x m .end ≡ carriedBy s x t m
@@ -59,12 +59,7 @@ module _ (s : Settings) (x : Instr) (m : Machine) where
 
     lanes-clear : clear (computed s x t m .faults) ≡ true
     unfolding stepOf
-    lanes-clear =
-        let f : Faults = computed s x t m .faults in
-        and-both (eqb (f .odd) 0 && eqb (f .device) 0 && eqb (f .local) 0 && eqb (f .divisor) 0) (eqb (f .barrier) 0)
-        (and-left (eqb (f .odd) 0 && eqb (f .device) 0 && eqb (f .local) 0 && eqb (f .divisor) 0)
-        (eqb (barrierBy (controlIn (x .op)) (launchedOf s) (m .wave)) 0) unfaulted)
-        (eq-eqb (f .barrier) 0 no-barrier)
+    lanes-clear = work-clear (controlIn (x .op)) refl unfaulted
 
     -- EVERY OTHER REGISTER of every lane is as before
     pub step-others : (i r : ℕ) → i < s .width → r < s .registers → (targetBy (x .op) ≡ to-register → has t i ≡ true → r ≡ x .rd → ⊥)

@@ -1,6 +1,6 @@
 -- How the parts of a step that the code works out make up the step of the definition.
 use mathlib.Core.Path.{_≡_, refl, sym, ap, _∙_}
-use mathlib.Core.Bool.{Bool, true, false, cond, _&&_}
+use mathlib.Core.Bool.{Bool, true, false, cond, and-true}
 use mathlib.Core.List.{List}
 use Prim.Native.Nat.{ℕ, min}
 use native.Mathlib.Nat.{min-le-right, min-eq-left}
@@ -24,15 +24,15 @@ use Rattle.wave.specs.Control.{controlRule, faultLanes, controlOf}
 use Rattle.wave.specs.Control as ruled
 use Rattle.wave.proofs.Laying.{length-opened}
 use Rattle.wave.proofs.View.{Seen, seen}
-use Rattle.compute.specs.declared.Faults.{Faults}
+use Rattle.compute.specs.declared.faults.Faults.{Faults}
 use Rattle.compute.specs.Operands.{Lent, lent}
-use Rattle.compute.specs.Faulting.{clear}
+use Rattle.compute.specs.Faulting.{clear, noFaults, ofBarrier}
 use Rattle.compute.specs.Carrying.{Outcome, outcome, carriedOf}
 use Rattle.compute.proofs.Carrying as carrying
 use Rattle.replay.specs.declared.settings.Settings.{Settings}
 use Rattle.replay.specs.Machine.{Machine, machineOf, named, withNamed, hotWith}
 use Rattle.replay.specs.Step as spec
-use Rattle.replay.specs.Step.{shapeOf, launchedOf, lanesOf, computed, noFaults, withBarrier, stepAs, ordinaryOf, stepOf}
+use Rattle.replay.specs.Step.{shapeOf, launchedOf, lanesOf, computed, stepAs, ordinaryOf, stepOf}
 use Rattle.replay.proofs.Naming.{named-same}
 
 -- the wave that is read after going on by some words
@@ -40,11 +40,6 @@ pub onward-seen : (n : ℕ) (h : Hot) (ps : Preds) (xs : List ℕ) → waveOf (h
 onward-seen n h ps xs =
     let e : min (min (h .depth) nesting) nesting ≡ min (h .depth) nesting = min-eq-left (min-le-right (h .depth) nesting) in
     rw (length-opened xs (min (h .depth) nesting), e)
-
--- what is false with a truth beside it is false with anything beside it
-still-false : (a b : Bool) → (a && true) ≡ false → (a && b) ≡ false
-still-false true b e = never (sym e)
-still-false false b e = refl
 
 abbrev given : Faults → Machine → spec.Stepped
 given f m = record { faults = f; end = m }
@@ -68,14 +63,13 @@ holding h path l = standing (waveOf h path) (predsOf h) l
 abbrev moved : Instr → Machine → Lent → Machine
 moved x m l = standing (onwardBy (size (x .op)) (m .wave)) (withNamed (x .rd) (l .predicate) (m .preds)) l
 
--- what is known once the lanes t have worked on l: the outcome o, the faults f of the step, and whether there are none
-pub record Worked (s : Settings) (x : Instr) (t : ℕ) (h : Hot) (l : Lent) (o : Outcome) (f : Faults) (none : Bool) : Type 0 where
+-- what is known once the lanes t have worked on l: the outcome o, and whether no lane faults
+pub record Worked (s : Settings) (x : Instr) (t : ℕ) (h : Hot) (l : Lent) (o : Outcome) (none : Bool) : Type 0 where
   pub predicate : l .predicate ≡ named (x .rd) (predsOf h)
   pub carries : o ≡ carriedOf (shapeOf s) x t l
-  pub joins : f ≡ withBarrier 0 (o .faults)
-  pub tells : none ≡ clear f
+  pub tells : none ≡ clear (o .faults)
 
-module _ {s : Settings} {x : Instr} {t : ℕ} {h : Hot} {l : Lent} {o : Outcome} {f : Faults} {none : Bool} (w : Worked s x t h l o f none)
+module _ {s : Settings} {x : Instr} {t : ℕ} {h : Hot} {l : Lent} {o : Outcome} {none : Bool} (w : Worked s x t h l o none)
     (path : List ℕ) where
   abbrev was : Machine
   was = holding h path l
@@ -87,36 +81,31 @@ module _ {s : Settings} {x : Instr} {t : ℕ} {h : Hot} {l : Lent} {o : Outcome}
   as-computed =
       w .carries ∙ ap (λ (p : ℕ). carriedOf (shapeOf s) x t (record { predicate = p; regs = l .regs; memories = l .memories })) (w .predicate)
 
-  as-ordinary : stepAs f went was ≡ ordinaryOf s x t was
+  as-ordinary : stepAs (o .faults) went was ≡ ordinaryOf s x t was
   unfolding ordinaryOf
-  as-ordinary =
-      ap (λ (g : Faults). stepAs g went was) (w .joins)
-      ∙ ap (λ (q : Outcome). stepAs (withBarrier 0 (q .faults)) (moved x was (q .after)) was) as-computed
+  as-ordinary = ap (λ (q : Outcome). stepAs (q .faults) (moved x was (q .after)) was) as-computed
 
   -- no lane faults: on by the instruction's words
   pub ordinary-on :
       {words : ℕ} {n hot : Hot} → words ≡ size (x .op) → ((xs : List ℕ) → n ≡ hotOf (onwardBy words (waveOf h xs)) (predsOf h)) →
       hot ≡ hotWith n (withNamed (x .rd) (o .after .predicate) (predsOf n)) → none ≡ true →
-      given f (holding hot path (o .after)) ≡ ordinaryOf s x t was
+      given (o .faults) (holding hot path (o .after)) ≡ ordinaryOf s x t was
   ordinary-on count goes is e =
       rw (is, goes path, count)
-      (ap (λ (v : Wave). given f (standing v (withNamed (x .rd) (o .after .predicate) (predsOf h)) (o .after)))
+      (ap (λ (v : Wave). given (o .faults) (standing v (withNamed (x .rd) (o .after .predicate) (predsOf h)) (o .after)))
       (onward-seen (size (x .op)) h (predsOf h) path))
-      ∙ step-goes f went was (sym (w .tells) ∙ e)
+      ∙ step-goes (o .faults) went was (sym (w .tells) ∙ e)
       ∙ as-ordinary
 
   -- some lane faults: nothing was written
-  pub ordinary-off : none ≡ false → given f (holding h path (o .after)) ≡ ordinaryOf s x t was
+  pub ordinary-off : none ≡ false → given (o .faults) (holding h path (o .after)) ≡ ordinaryOf s x t was
   ordinary-off e =
-      let bad : clear f ≡ false = sym (w .tells) ∙ e in
-      let faulty : clear (o .faults) ≡ false =
-      still-false (eqb (o .faults .odd) 0 && eqb (o .faults .device) 0 && eqb (o .faults .local) 0 && eqb (o .faults .divisor) 0)
-      (eqb (o .faults .barrier) 0) (ap clear (sym (w .joins)) ∙ bad) in
+      let bad : clear (o .faults) ≡ false = sym (w .tells) ∙ e in
       let kept : o .after ≡ l =
       ap (λ (q : Outcome). q .after) (w .carries)
-      ∙ carrying.faulted (shapeOf s) x t l (ap (λ (q : Outcome). clear (q .faults)) (sym (w .carries)) ∙ faulty) in
-      ap (λ (k : Lent). given f (holding h path k)) kept
-      ∙ step-stays f went was bad
+      ∙ carrying.faulted (shapeOf s) x t l (ap (λ (q : Outcome). clear (q .faults)) (sym (w .carries)) ∙ bad) in
+      ap (λ (k : Lent). given (o .faults) (holding h path k)) kept
+      ∙ step-stays (o .faults) went was bad
       ∙ as-ordinary
 
 -- ---- the step of any instruction
@@ -170,11 +159,11 @@ module _ (s : Settings) (x : Instr) (o : ControlOp) (h : Hot) (path path′ regs
 
   by-rule :
       Seen o (launchedOf s) (lanesOf x at) h path r path′ →
-      given (withBarrier (r .barrier) noFaults) (machineOf (r .hot) path′ regs device local) ≡ stepOf s x at
+      given (ofBarrier (r .barrier)) (machineOf (r .hot) path′ regs device local) ≡ stepOf s x at
   unfolding stepOf
   by-rule q =
-      rw (q .lanes, q .wave, q .preds, idle, is, named-same (x .rd) (predsOf h))
-      (ap (given (withBarrier (faultLanes o (launchedOf s) (waveOf h path)) noFaults))
+      rw (q .lanes, q .wave, q .preds, idle, is, named-same (x .rd) (predsOf h), and-true)
+      (ap (given (ofBarrier (faultLanes o (launchedOf s) (waveOf h path))))
       (either-way (eqb (faultLanes o (launchedOf s) (waveOf h path)) 0) _ (waveOf h path) with-wave
       (stays o (launchedOf s) (lanesOf x at) (waveOf h path))))
 
@@ -183,7 +172,7 @@ pub step-control :
     {x : Instr} {h : Hot} {t all : ℕ} {kind : ControlIn} {o : ControlOp} {r : Stepped} {f : Faults} {path′ regs device local : List ℕ} →
     Looked x h t kind → kind ≡ ControlIn.Control o → (s : Settings) (path : List ℕ) →
     all ≡ launchedOf s → length path ≡ pathNumbers →
-    ruled.given r path′ ≡ controlOf o all t h path → f ≡ withBarrier (r .barrier) noFaults →
+    ruled.given r path′ ≡ controlOf o all t h path → f ≡ ofBarrier (r .barrier) →
     given f (machineOf (r .hot) path′ regs device local) ≡ stepOf s x (machineOf h path regs device local)
 step-control {x = x} {h = h} {o = o} {r = r} l control s path launched long e alone =
     let q = seen o _ _ h path r _ long e in

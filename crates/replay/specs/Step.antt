@@ -12,8 +12,8 @@ use Rattle.wave.specs.Wave.{Wave}
 use Rattle.wave.specs.Rules.{executingOf, onwardBy}
 use Rattle.wave.specs.Control.{controlRule, faultLanes}
 use Rattle.compute.specs.declared.Shape.{Shape}
-use Rattle.compute.specs.declared.Faults.{Faults}
-use Rattle.compute.specs.Faulting.{faults, clear}
+use Rattle.compute.specs.declared.faults.Faults.{Faults}
+use Rattle.compute.specs.Faulting.{clear, ofBarrier}
 use Rattle.compute.specs.Carrying.{Outcome, carriedOf}
 use Rattle.replay.specs.declared.settings.Settings.{Settings}
 use Rattle.replay.specs.declared.step.StepAnswer.{StepAnswer}
@@ -46,22 +46,13 @@ waveBy ControlIn.Other n all t w = onwardBy n w
 abbrev pub waveAfter : Op → ℕ → ℕ → Wave → Wave
 waveAfter op all t w = waveBy (controlIn op) (size op) all t w
 
--- fault 5, which only BARRIER has
-abbrev pub barrierBy : ControlIn → ℕ → Wave → ℕ
-barrierBy (ControlIn.Control o) all w = faultLanes o all w
-barrierBy ControlIn.Other all w = 0
-
--- no lane faults
-abbrev pub noFaults : Faults
-noFaults = faults 0 0 0 0
-
--- the faults of the registers and memories, with those of a barrier
-abbrev pub withBarrier : ℕ → Faults → Faults
-withBarrier lanes f =
-    record { odd = f .odd; device = f .device; local = f .local; divisor = f .divisor; barrier = lanes }
+-- the faults: a control instruction has those of a barrier, which only BARRIER has, and any other those of its lanes' work
+abbrev pub faultsBy : ControlIn → ℕ → Wave → Faults → Faults
+faultsBy (ControlIn.Control o) all w f = ofBarrier (faultLanes o all w)
+faultsBy ControlIn.Other all w f = f
 
 abbrev pub faultsIn : Settings → Instr → Machine → Faults
-faultsIn s x m = withBarrier (barrierBy (controlIn (x .op)) (launchedOf s) (m .wave)) (computed s x (lanesOf x m) m .faults)
+faultsIn s x m = faultsBy (controlIn (x .op)) (launchedOf s) (m .wave) (computed s x (lanesOf x m) m .faults)
 
 -- the machine after the lanes t carried x out
 abbrev pub carriedBy : Settings → Instr → ℕ → Machine → Machine
@@ -91,7 +82,7 @@ stepped a path regs device local = record { faults = a .faults; end = machineOf 
 -- a step of an instruction that is no control instruction, by the lanes t
 unfoldable pub ordinaryOf : Settings → Instr → ℕ → Machine → Stepped
 ordinaryOf s x t m =
-    stepAs (withBarrier 0 (computed s x t m .faults)) (record {
+    stepAs (computed s x t m .faults) (record {
       wave = onwardBy (size (x .op)) (m .wave);
       preds = withNamed (x .rd) (computed s x t m .after .predicate) (m .preds);
       regs = computed s x t m .after .regs;

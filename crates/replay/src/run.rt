@@ -1,8 +1,8 @@
 // A run without checks: steps from a machine until it has ended, some lane faults, or no budget is left.
 use crate::answers::Outcome;
 use crate::settings::Settings;
-use crate::step::is_clear;
 use crate::step::step;
+use compute::faults::is_clear;
 use lanes::first;
 use lanes::without;
 use wave::state::Hot;

@@ -1,8 +1,10 @@
 // One step of the wave: an instruction carried out by the executing lanes.
 use crate::settings::Settings;
-use compute::Faults;
 use compute::Shape;
 use compute::carry_out;
+use compute::faults::Faults;
+use compute::faults::is_clear;
+use compute::faults::of_barrier;
 use lanes::Lanes;
 use lanes::first;
 use wave::control::control;
@@ -19,48 +21,14 @@ ghost use mathlib.Core.Path.{_≡_};
 ghost use mathlib.Core.List.{List};
 ghost use Prim.Native.Nat.{ℕ};
 ghost use Rattle.wave.specs.Wave.{waveOf, predsOf};
-ghost use Rattle.compute.specs.Faulting.{clear};
 ghost use Rattle.words.specs.Fetching.{controlIn};
 ghost use Rattle.replay.specs.Machine.{machineOf, named, withNamed, hotWith};
-ghost use Rattle.replay.specs.Step.{noFaults, ordinaryOf, stepped, stepOf, withBarrier};
+ghost use Rattle.replay.specs.Step.{ordinaryOf, stepped, stepOf};
 
 // After a step: the faults, and the hot numbers.
 pub struct StepAnswer {
     pub faults: Faults,
     pub hot: Hot,
-}
-
-// Whether no lane faults.
-pub fn is_clear(f: Faults) -> bool
-    ensures { λ r. ⌜ r ≡ clear f ⌝ }
-{
-    (f.odd == 0) & (f.device == 0) & (f.local == 0) & (f.divisor == 0) & (f.barrier == 0)
-}
-
-// The faults, with the lanes of a barrier.
-fn with_barrier(barrier: Lanes, f: Faults) -> Faults
-    ensures { λ r. ⌜ r ≡ withBarrier barrier f ⌝ }
-{
-    Faults {
-        odd: f.odd,
-        device: f.device,
-        local: f.local,
-        divisor: f.divisor,
-        barrier,
-    }
-}
-
-// The faults of a barrier alone.
-fn barrier_alone(barrier: Lanes) -> Faults
-    ensures { λ r. ⌜ r ≡ withBarrier barrier noFaults ⌝ }
-{
-    Faults {
-        odd: 0,
-        device: 0,
-        local: 0,
-        divisor: 0,
-        barrier,
-    }
 }
 
 // The set of predicate `k`; none where there is no such predicate.
@@ -110,7 +78,7 @@ fn ordinary(
         registers: settings.registers,
     };
     let c = carry_out(x, t, named_set(rd, h), shape, regs, device, local);
-    let faults = with_barrier(0, c.faults);
+    let faults = c.faults;
     if is_clear(faults) {
         let n = onward_by(word_count(op), h);
         let hot = with_named(rd, c.predicate, n);
@@ -142,7 +110,7 @@ pub(crate) fn step(
             whole(path);
             let a = control(o, t, first(settings.lanes), h, path);
             let hot = a.hot;
-            let faults = barrier_alone(a.barrier);
+            let faults = of_barrier(a.barrier);
             StepAnswer { faults, hot }
         }
         ControlIn::Other => ordinary(x, t, settings, h, regs, device, local),

@@ -3,7 +3,10 @@
 use crate::text::put;
 use crate::text::put_decimal;
 use crate::text::put_number;
-use compute::Faults;
+use compute::faults::Faults;
+use compute::faults::KINDS;
+use compute::faults::lanes_of_kind;
+use compute::faults::no_faults;
 use lanes::Lanes;
 use naming::TEXT_ROOM;
 use naming::TextAnswer;
@@ -59,20 +62,24 @@ fn put_set(out: &mut [u8], at: usize, word: &[u8], lanes: Lanes) -> usize {
 }
 
 // The line of a fault kind, where it has lanes.
-fn put_kind(out: &mut [u8], at: usize, word: &[u8], lanes: Lanes) -> usize {
+fn put_kind(out: &mut [u8], at: usize, kind: usize, lanes: Lanes) -> usize {
     if lanes == 0 {
         return at;
     }
-    put_set(out, at, word, lanes)
+    let q = put(out, at, b"kind ");
+    let q = put_decimal(out, q, kind);
+    put_set(out, q, b" lanes ", lanes)
 }
 
 // The kinds of a fault in rising order.
 fn put_kinds(out: &mut [u8], at: usize, f: Faults) -> usize {
-    let q = put_kind(out, at, b"kind 1 lanes ", f.odd);
-    let q = put_kind(out, q, b"kind 2 lanes ", f.device);
-    let q = put_kind(out, q, b"kind 3 lanes ", f.local);
-    let q = put_kind(out, q, b"kind 4 lanes ", f.divisor);
-    put_kind(out, q, b"kind 5 lanes ", f.barrier)
+    let mut q = at;
+    let mut kind: usize = 1;
+    while kind <= KINDS {
+        q = put_kind(out, q, kind, lanes_of_kind(kind, f));
+        kind += 1;
+    }
+    q
 }
 
 // A word and a number, or a space and a set of lanes.
@@ -194,13 +201,7 @@ fn put_outcome(out: &mut [u8], at: usize, outcome: Outcome) -> usize {
 
 // The lanes of each fault kind.
 fn faults_of(outcome: Outcome) -> Faults {
-    let none = Faults {
-        odd: 0,
-        device: 0,
-        local: 0,
-        divisor: 0,
-        barrier: 0,
-    };
+    let none = no_faults();
     match outcome {
         Outcome::Ended => none,
         Outcome::OutOfBudget => none,

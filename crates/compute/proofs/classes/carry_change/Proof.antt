@@ -1,4 +1,4 @@
--- `compute::classes::carry_change` meets its contract: the atomics at the addresses and the old words written, by what `clear` told of
+-- `compute::classes::carry_change` meets its contract: the atomics at the addresses and the old words written, by what `is_clear` told of
 -- the faults.
 use mathlib.Core.Path.{_≡_, ap, _∙_}
 use mathlib.Core.List.{List}
@@ -32,12 +32,12 @@ returns c =
     let z = i .before .before in
     let a = z .before .before .before .before .before .args in
     let f = changeTo (a .change) (a .shape) (a .regs .now) (a .rs2) (a .rs3) in (
-      settled-changed _ _ _ (faults-are z) (i .before .clear .ensures) _ _ _ (i .if1 .taken)
+      settled-changed _ _ _ (faults-are z) (i .before .is-clear .ensures) _ _ _ (i .if1 .taken)
           (w .write-lanes .ensures
           ∙ ap (λ (l : List ℕ). writeLanes (a .shape) (a .regs .now) (a .rd) (a .t) l)
           (v .change-lanes .ensures .0
           ∙ ap (λ (at : List ℕ). byLane (a .shape .width) (oldOf at f (a .t) (a .device .now))) (z .before .gather .ensures))),
-      settled-changed _ _ _ (faults-are z) (i .before .clear .ensures) _ _ _ (i .if1 .taken)
+      settled-changed _ _ _ (faults-are z) (i .before .is-clear .ensures) _ _ _ (i .if1 .taken)
           (v .change-lanes .ensures .1
           ∙ ap (λ (at : List ℕ). changesOf (a .shape .width) at f (a .t) (a .device .now)) (z .before .gather .ensures)),
     )
@@ -45,8 +45,8 @@ returns c =
 returns-2 : tie.Need-returns-2
 returns-2 c =
     let t = c .before in (
-      settled-same _ _ _ (faults-are (t .before)) (t .clear .ensures) _ _ (c .if1 .left),
-      settled-same _ _ _ (faults-are (t .before)) (t .clear .ensures) _ _ (c .if1 .left),
+      settled-same _ _ _ (faults-are (t .before)) (t .is-clear .ensures) _ _ (c .if1 .left),
+      settled-same _ _ _ (faults-are (t .before)) (t .is-clear .ensures) _ _ (c .if1 .left),
     )
 
 pub carry-change-spec : {M : Type 1} → statement M

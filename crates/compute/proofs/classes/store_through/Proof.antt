@@ -1,4 +1,4 @@
--- `compute::classes::store_through` meets its contract: the stores at the addresses, by what `clear` told of their faults.
+-- `compute::classes::store_through` meets its contract: the stores at the addresses, by what `is_clear` told of their faults.
 use mathlib.Core.Path.{_≡_, ap, _∙_}
 use mathlib.Core.List.{List}
 use Prim.Native.Nat.{ℕ}
@@ -27,13 +27,13 @@ returns c =
     let t = w .before .before .before in
     let z = t .before in
     let a = z .before .before .before .before .args in
-    settled-changed _ _ _ (faults-are z) (t .clear .ensures) _ _ _ (w .before .before .if1 .taken)
+    settled-changed _ _ _ (faults-are z) (t .is-clear .ensures) _ _ _ (w .before .before .if1 .taken)
     (w .store-lanes .ensures
     ∙ ap (λ (at : List ℕ). changesOf (a .shape .width) at (λ i old. getD (gatherOf (a .shape) (a .regs .now) (a .rd)) i 0) (a .t) (a .memory .now))
     (z .before .addresses .ensures))
 
 returns-2 : tie.Need-returns-2
-returns-2 c = settled-same _ _ _ (faults-are (c .before .before)) (c .before .clear .ensures) _ _ (c .if1 .left)
+returns-2 c = settled-same _ _ _ (faults-are (c .before .before)) (c .before .is-clear .ensures) _ _ (c .if1 .left)
 
 pub store-through-spec : {M : Type 1} → statement M
 store-through-spec = tie.close (tie.spec

@@ -1,4 +1,4 @@
--- `compute::faulting::address_faults` meets its contract: where every address is in reach no lane faults, and else by cases of the memory.
+-- `compute::faulting::address_faults` meets its contract: where every address is in reach no lane faults, and else the tests of the lanes tell the faults.
 use mathlib.Core.Path.{_≡_, sym, _∙_}
 use Prim.Native.Nat.{ℕ, _≤_, _<_}
 use native.Mathlib.Omega.{arith}
@@ -8,7 +8,7 @@ use mir.Val.{Fits}
 use borrow.Author.Needs.{needs}
 use Rattle.lanes.specs.Sets.{widest}
 use Rattle.compute.specs.Memory.{wordOf}
-use Rattle.compute.proofs.FaultKinds.{device-kinds, local-kinds}
+use Rattle.compute.proofs.FaultKinds.{address-kinds}
 use Rattle.compute.proofs.Reaching.{all-in-reach, past-same}
 use Rattle.compute.proofs.faulting.address_faults.Statement.{statement}
 use Rattle.compute.proofs.faulting.address_faults.Tie as tie
@@ -33,25 +33,14 @@ returns c =
 
 returns-2 : tie.Need-returns-2
 returns-2 c =
-    let h = c .before .before in
+    let h = c .before in
     let n = h .before .before .before in
     let z = n .before in
     let a = z .args in
-    rw (c .enum-told .given .1)
-    (device-kinds (a .width) (a .t) (a .words) (λ i. getD (a .at) i 0) _ _ (h .reach .ensures .0)
-    (h .reach .ensures .1 ∙ past-same (a .width) (a .t) (a .words) _ (a .at) (n .nameable .ensures) (word-low z)))
-
-returns-3 : tie.Need-returns-3
-returns-3 c =
-    let h = c .before .before in
-    let n = h .before .before .before in
-    let z = n .before in
-    let a = z .args in
-    rw (c .enum-told2 .given .1)
-    (local-kinds (a .width) (a .t) (a .words) (λ i. getD (a .at) i 0) _ _ (h .reach .ensures .0)
-    (h .reach .ensures .1 ∙ past-same (a .width) (a .t) (a .words) _ (a .at) (n .nameable .ensures) (word-low z)))
+    c .of-addresses .ensures
+    ∙ address-kinds (a .width) (a .t) (a .words) (λ i. getD (a .at) i 0) (a .space) _ _ (h .reach .ensures .0)
+    (h .reach .ensures .1 ∙ past-same (a .width) (a .t) (a .words) _ (a .at) (n .nameable .ensures) (word-low z))
 
 pub address-faults-spec : {M : Type 1} → statement M
 address-faults-spec = tie.close (tie.spec
-    (λ c κs. search needs) (λ c κs. search needs) (λ c κs. search needs) returns (λ c κs. search needs) (λ c. search needs)
-    (λ c. search needs) returns-2 returns-3)
+    (λ c κs. search needs) (λ c κs. search needs) (λ c κs. search needs) returns (λ c κs. search needs) (λ c κs. search needs) returns-2)

@@ -1,52 +1,46 @@
--- The kinds stand one behind another: `five-kinds`.
-use Prim.Native.Nat.{_+_, _≤_}
+-- The invariant: the kinds below `kind` stand one behind another, and the loop stands behind them.
+use mathlib.Core.Path.{_≡_, refl, ap, _∙_, subst}
+use Prim.Native.Nat.{ℕ, suc, _-_}
 use native.Mathlib.Omega.{arith}
-use Rattle.keys.specs.Putting.{kindsPlace}
-use Rattle.keys.proofs.Kinding.{kind-place, five-kinds, small-kinds}
+use lib.ListN.{length}
 use borrow.Author.Needs.{needs}
+use Rattle.numbers.specs.Numbers.{Small}
+use Rattle.compute.specs.Faulting.{kinds}
+use Rattle.keys.specs.Putting.{afterNumbers, noted}
+use Rattle.keys.proofs.Kinding.{Kept, kept-none, kept-place, kept-next, kept-all}
 use Rattle.keys.proofs.putting.put_kinds.Statement.{statement}
 use Rattle.keys.proofs.putting.put_kinds.Tie as tie
 
--- each kind takes at most eight bytes
-first-place : (z : tie.After-put-kind) → z .put-kind .result ≤ kindsPlace + 8
-first-place z = kind-place _ _ _ _ _ _ (z .put-kind .ensures .0)
+abbrev Inv-loop : tie.InvT-loop
+Inv-loop f out₀ at₀ kind₀ out at kind = (length out ≡ length out₀) × Kept f out₀ out at kind
 
-second-place : (z : tie.After-put-kind2) → z .put-kind2 .result ≤ kindsPlace + 16
-second-place z = omega (arith, first-place (z .before .before .before .before), kind-place _ _ _ _ _ _ (z .put-kind2 .ensures .0))
+abbrev μ-loop : tie.MeasureT-loop
+μ-loop f out₀ at₀ kind₀ out at kind = suc kinds - kind
 
-third-place : (z : tie.After-put-kind3) → z .put-kind3 .result ≤ kindsPlace + 24
-third-place z = omega (arith, second-place (z .before .before .before .before), kind-place _ _ _ _ _ _ (z .put-kind3 .ensures .0))
+loop-holds : tie.Need-loop-holds Inv-loop μ-loop
+loop-holds c = (refl, kept-none _ _)
 
-fourth-place : (z : tie.After-put-kind4) → z .put-kind4 .result ≤ kindsPlace + 32
-fourth-place z = omega (arith, third-place (z .before .before .before .before), kind-place _ _ _ _ _ _ (z .put-kind4 .ensures .0))
+put-kind-requires : tie.Need-put-kind-requires Inv-loop μ-loop
+put-kind-requires c κs =
+    let t = c .before .before in
+    omega (arith, t .loop-test .taken, kept-place (t .before .loop .inv .1))
 
-put-kind-requires-2 : tie.Need-put-kind-requires-2
-put-kind-requires-2 c κs = omega (arith, first-place (c .before .before .before))
+loop-again : tie.Need-loop-again Inv-loop μ-loop
+loop-again c =
+    let put = c .before .before in
+    let lanes = put .before .before in
+    let t = lanes .before in
+    let h = t .before .loop in (
+      put .put-kind .kept .1 .1 .1 .0 ∙ h .inv .0,
+      kept-next _ _ _ _ _ _ (h .kind) (h .inv .1) (omega (arith, t .loop-test .taken))
+          (put .put-kind .ensures .0 ∙ ap (λ (l : ℕ). afterNumbers (noted (h .kind) l) (h .at) (h .out)) (lanes .lanes-of-kind .ensures))
+          (subst (λ (l : ℕ). Small (noted (h .kind) l)) (lanes .lanes-of-kind .ensures) (put .put-kind .ensures .1)),
+    )
 
-put-kind-requires-3 : tie.Need-put-kind-requires-3
-put-kind-requires-3 c κs = omega (arith, second-place (c .before .before .before))
-
-put-kind-requires-4 : tie.Need-put-kind-requires-4
-put-kind-requires-4 c κs = omega (arith, third-place (c .before .before .before))
-
-put-kind-requires-5 : tie.Need-put-kind-requires-5
-put-kind-requires-5 c κs = omega (arith, fourth-place (c .before .before .before))
-
-returns : tie.Need-returns
-returns c =
-    let z5 = c .before .before in
-    let z4 = z5 .before .before .before .before in
-    let z3 = z4 .before .before .before .before in
-    let z2 = z3 .before .before .before .before in
-    let z1 = z2 .before .before .before .before in
-    let f = z1 .before .before .before .args .f in
-    let e1 = z1 .put-kind .ensures in
-    let e2 = z2 .put-kind2 .ensures in
-    let e3 = z3 .put-kind3 .ensures in
-    let e4 = z4 .put-kind4 .ensures in
-    let e5 = z5 .put-kind5 .ensures in
-    (five-kinds f _ _ _ _ _ _ _ _ _ _ _ _ (e1 .0) (e2 .0) (e3 .0) (e4 .0) (e5 .0), small-kinds f (e1 .1) (e2 .1) (e3 .1) (e4 .1) (e5 .1))
+returns : tie.Need-returns Inv-loop μ-loop
+returns c = kept-all _ _ _ _ _ (c .before .loop .inv .1) (omega (arith, c .loop-test .left))
 
 pub put-kinds-spec : {M : Type 1} → statement M
 put-kinds-spec = tie.close (tie.spec
-    (λ c κs. search needs) put-kind-requires-2 put-kind-requires-3 put-kind-requires-4 put-kind-requires-5 (λ c. search needs) returns)
+    Inv-loop μ-loop loop-holds (λ c. omega arith) (λ c κs. search needs) put-kind-requires (λ c. omega arith) (λ c. omega arith) loop-again
+    (λ c. c .before .loop .inv .0) returns)

@@ -13,13 +13,12 @@ worked : (z : tie.After-is-clear) →
     let a = named .before .before .before .before .args in
     let l = made .carry-out .last .1 .1 .1 .1 in
     Worked (a .settings) (a .x) (a .t) (a .h) (lent (named .named-set .result) (a .regs .now) (a .device .now) (a .local .now))
-    (carried (made .carry-out .result) (l .0) (l .1 .0) (l .1 .1 .0)) (z .before .with-barrier .result) (z .is-clear .result)
+    (carried (made .carry-out .result) (l .0) (l .1 .0) (l .1 .1 .0)) (z .is-clear .result)
 worked z =
     let made = z .before .before .before .before .before .before .before .before in
     record {
       predicate = made .before .before .before .before .named-set .ensures;
       carries = made .carry-out .ensures;
-      joins = z .before .with-barrier .ensures;
       tells = z .is-clear .ensures;
     }
 
@@ -35,5 +34,5 @@ returns-2 c = λ path. ordinary-off (worked (c .before)) path (c .if1 .left)
 pub ordinary-spec : {M : Type 1} → statement M
 ordinary-spec = tie.close (tie.spec
     (λ c κs. search needs) (λ c κs. search needs) (λ c κs. search needs) (λ c κs. search needs) (λ c κs. search needs)
-    (λ c κs. search needs) (λ c κs. search needs) (λ c. search needs) (λ c. search needs) (λ c. search needs) returns (λ c. search needs)
+    (λ c κs. search needs) (λ c. search needs) (λ c. search needs) (λ c. search needs) returns (λ c. search needs)
     (λ c. search needs) (λ c. search needs) returns-2)

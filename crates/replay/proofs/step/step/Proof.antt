@@ -19,7 +19,7 @@ returns c =
     let read = known .before .before in
     let a = read .before .before .before .before .before .before .args in
     step-control (looked read) (known .kind .given .1) _ (a .path .now) (counted .first .ensures) (counted .before .whole .ensures)
-    (ruled .control .ensures) (c .barrier-alone .ensures)
+    (ruled .control .ensures) (c .of-barrier .ensures)
 
 returns-2 : tie.Need-returns-2
 returns-2 c =
