@@ -15,11 +15,11 @@ use Rattle.ground.proofs.Choices.{cond-by, length-set-cond}
 use Rattle.ground.proofs.Lists.{length-inOrder, inOrder-same}
 use Rattle.ground.proofs.Tests.{false-of}
 use Rattle.lanes.specs.Sets.{widest, has}
-use Rattle.words.specs.declared.instr.AtomicOp.{AtomicOp}
-use Rattle.words.specs.declared.instr.Op.{Op}
-use Rattle.words.specs.declared.instr.Space.{Space}
-use Rattle.words.specs.declared.instr.Instr.{Instr}
-use Rattle.words.specs.Registers.{registersOf}
+use Rattle.instructions.specs.declared.instr.AtomicOp.{AtomicOp}
+use Rattle.instructions.specs.declared.instr.Op.{Op}
+use Rattle.instructions.specs.declared.instr.Space.{Space}
+use Rattle.instructions.specs.declared.instr.Instr.{Instr}
+use Rattle.instructions.specs.Registers.{registersOf}
 use Rattle.arith.specs.Arith.{atomicOf, swapOf, addressOf}
 use Rattle.compute.specs.declared.Shape.{Shape}
 use Rattle.compute.specs.Registers.{gatherOf}

@@ -6,10 +6,10 @@ use mathlib.Core.List.{List}
 use lib.ListN.{getD, set}
 use Rattle.ground.specs.Lists.{inOrder}
 use Rattle.lanes.specs.Sets.{has}
-use Rattle.words.specs.declared.instr.AtomicOp.{AtomicOp}
-use Rattle.words.specs.declared.instr.Space.{Space}
-use Rattle.words.specs.declared.instr.Op.{Op}
-use Rattle.words.specs.declared.instr.Instr.{Instr}
+use Rattle.instructions.specs.declared.instr.AtomicOp.{AtomicOp}
+use Rattle.instructions.specs.declared.instr.Space.{Space}
+use Rattle.instructions.specs.declared.instr.Op.{Op}
+use Rattle.instructions.specs.declared.instr.Instr.{Instr}
 use Rattle.arith.specs.Arith.{twoOf, oneOf, compareOf, atomicOf, swapOf, addressOf}
 use Rattle.compute.specs.declared.Shape.{Shape}
 use Rattle.compute.specs.Registers.{slotIn}

@@ -14,9 +14,9 @@ use crate::Faults;
 use crate::Shape;
 use crate::masks::marked;
 use crate::registers::slot;
+use instructions::instr::Space;
+use instructions::instr::TwoOp;
 use lanes::Lanes;
-use words::instr::Space;
-use words::instr::TwoOp;
 
 // No fault.
 pub(crate) fn no_faults() -> Faults

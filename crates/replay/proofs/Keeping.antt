@@ -11,9 +11,9 @@ use lib.ListN.{length}
 use Rattle.ground.proofs.Bools.{never}
 use Rattle.lanes.specs.Sets.{bit, first, without}
 use Rattle.lanes.proofs.Members.{joined-le}
-use Rattle.words.specs.declared.instr.Op.{Op}
-use Rattle.words.specs.declared.instr.Instr.{Instr}
-use Rattle.words.specs.Forms.{limitsOf, size}
+use Rattle.instructions.specs.declared.instr.Op.{Op}
+use Rattle.instructions.specs.declared.instr.Instr.{Instr}
+use Rattle.instructions.specs.Forms.{limitsOf, size}
 use Rattle.words.specs.Fetching.{instrAt}
 use Rattle.words.proofs.Sizes.{size-most}
 use Rattle.words.proofs.Fetches.{fetched}

@@ -10,10 +10,10 @@ use lib.ListN.{length}
 use borrow.Author.Tests.{leb-true, le-leb}
 use Rattle.ground.proofs.Bools.{never}
 use Rattle.lanes.specs.Sets.{widest}
-use Rattle.words.specs.declared.instr.Op.{Op}
-use Rattle.words.specs.declared.instr.Instr.{Instr}
+use Rattle.instructions.specs.declared.instr.Op.{Op}
+use Rattle.instructions.specs.declared.instr.Instr.{Instr}
 use Rattle.words.specs.declared.reading.ReadAnswer.{ReadAnswer}
-use Rattle.words.specs.Forms.{limitsOf}
+use Rattle.instructions.specs.Forms.{limitsOf}
 use Rattle.words.proofs.Sizes.{size-most}
 use Rattle.words.proofs.Standing.{stood}
 use Rattle.words.proofs.Fetches.{fetched}
@@ -21,7 +21,7 @@ use Rattle.blocks.specs.Code.{codeOf}
 use Rattle.blocks.specs.Item.{itemOf}
 use Rattle.blocks.specs.OpenAt.{openAt}
 use Rattle.blocks.specs.Nesting.{Nested}
-use Rattle.words.proofs.PastRegisters.{past-if}
+use Rattle.instructions.proofs.PastRegisters.{past-if}
 use Rattle.wave.specs.declared.state.State.{State}
 use Rattle.wave.specs.Layout.{opened}
 use Rattle.wave.specs.Opens.{StateFits}

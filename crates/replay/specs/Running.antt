@@ -6,17 +6,17 @@ use mathlib.Core.Path.{_≡_}
 use mathlib.Core.Bool.{true, false}
 use mathlib.Core.List.{List}
 use lib.ListN.{length}
-use Rattle.words.specs.declared.instr.ControlOp.{ControlOp}
-use Rattle.words.specs.declared.instr.Op.{Op}
-use Rattle.words.specs.declared.instr.Instr.{Instr}
+use Rattle.instructions.specs.declared.instr.ControlOp.{ControlOp}
+use Rattle.instructions.specs.declared.instr.Op.{Op}
+use Rattle.instructions.specs.declared.instr.Instr.{Instr}
 use Rattle.words.specs.declared.reading.ReadAnswer.{ReadAnswer}
-use Rattle.words.specs.Forms.{size}
+use Rattle.instructions.specs.Forms.{size}
 use Rattle.words.specs.Layout.{wordsOf}
 use Rattle.words.specs.Reading.{readAt}
 use Rattle.words.specs.Rules.{Stands}
 use Rattle.words.specs.Fetching.{instrAt}
 use Rattle.blocks.specs.Scan.{nesting}
-use Rattle.words.specs.Registers.{Past}
+use Rattle.instructions.specs.Registers.{Past}
 use Rattle.wave.specs.Rules.{onBy}
 use Rattle.wave.specs.Ready.{Ready}
 use Rattle.compute.specs.Operands.{Lent, operandsOf}

@@ -3,8 +3,8 @@ use mathlib.Core.Path.{_≡_, ap, sym, _∙_}
 use mathlib.Core.Bool.{Bool}
 use mathlib.Core.List.{List, []}
 use Prim.Native.Nat.{ℕ, min}
-use Rattle.words.specs.declared.instr.ControlOp.{ControlOp}
-use Rattle.words.specs.declared.instr.Guard.{Guard}
+use Rattle.instructions.specs.declared.instr.ControlOp.{ControlOp}
+use Rattle.instructions.specs.declared.instr.Guard.{Guard}
 use Rattle.lanes.specs.Sets.{widest}
 use Rattle.blocks.specs.Scan.{nesting}
 use Rattle.wave.specs.declared.state.Hot.{Hot}

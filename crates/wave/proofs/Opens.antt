@@ -8,7 +8,7 @@ use mathlib.Core.Logic.{_⊎_, _↔_, inl, inr, dite}
 use mathlib.Core.List.{List}
 use lib.ListN.{length}
 use Rattle.lanes.specs.Sets.{widest}
-use Rattle.words.specs.declared.instr.Instr.{Instr}
+use Rattle.instructions.specs.declared.instr.Instr.{Instr}
 use Rattle.words.specs.Rules.{Stands}
 use Rattle.words.proofs.Standing.{stood}
 use Rattle.blocks.specs.Code.{codeOf}

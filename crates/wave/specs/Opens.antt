@@ -5,7 +5,7 @@ use mathlib.Core.Path.{_≡_}
 use mathlib.Core.Logic.{_⊎_}
 use mathlib.Core.List.{List}
 use lib.ListN.{length}
-use Rattle.words.specs.declared.instr.Instr.{Instr}
+use Rattle.instructions.specs.declared.instr.Instr.{Instr}
 use Rattle.words.specs.Rules.{Stands}
 use Rattle.blocks.specs.Scan.{Open}
 use Rattle.blocks.specs.Nesting.{Opened}
