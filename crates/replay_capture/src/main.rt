@@ -4,7 +4,6 @@ mod opening;
 mod replaying;
 mod report;
 mod rooms;
-mod running;
 mod saving;
 
 use libc::STDERR_FILENO;

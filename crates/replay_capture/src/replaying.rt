@@ -1,7 +1,6 @@
 // A capture's words replayed, and what is told and kept of it.
 use crate::report::say_key;
 use crate::report::say_report;
-use crate::running::run;
 use crate::saving::save;
 use captures::answer::Counts;
 use captures::answer::Head;
@@ -14,6 +13,7 @@ use packing::words_of;
 use replay::answers::Outcome;
 use replay::answers::Replayed;
 use replay::settings::Settings;
+use slices::run;
 ghost use mathlib.Core.Path.{_≡_};
 ghost use Prim.Native.Nat.{min};
 
