@@ -2,7 +2,7 @@
 // what the library's function answers.
 mod days;
 mod format;
-mod instructions;
+mod operations;
 mod runs;
 mod states;
 
@@ -15,14 +15,14 @@ ghost use lib.ListN.{length};
 // The answer to a case of this kind, at the start of `out`, and how many bytes it has; none for a kind that there isn't.
 fn answer(kind: u32, case: &[u8], out: &mut [u8]) -> usize {
     match kind {
-        1 => instructions::answer_read(case, out),
-        2 => instructions::answer_write(case, out),
+        1 => operations::answer_read(case, out),
+        2 => operations::answer_write(case, out),
         3 => runs::answer_run(case, out),
         4 => runs::answer_key(case, out),
         5 => days::answer_make(case, out),
         6 => days::answer_read(case, out),
         7 => days::answer_list(case, out),
-        8 => instructions::answer_text(case, out),
+        8 => operations::answer_text(case, out),
         _ => 0,
     }
 }

@@ -13,9 +13,9 @@ use lib.IntN.{natAbs}
 use lib.Signed.{quotZ}
 use mir.Syntax.{w32}
 use mir.Facts.{fits-of-lt, fits-ofZ, toZ-pos}
-use Rattle.words.specs.declared.instr.TwoOp.{TwoOp}
-use Rattle.words.specs.declared.instr.OneOp.{OneOp}
-use Rattle.words.specs.declared.instr.AtomicOp.{AtomicOp}
+use Rattle.instructions.specs.declared.instr.TwoOp.{TwoOp}
+use Rattle.instructions.specs.declared.instr.OneOp.{OneOp}
+use Rattle.instructions.specs.declared.instr.AtomicOp.{AtomicOp}
 use Rattle.ground.proofs.Numbers.{product-lt, cond-lt}
 use Rattle.arith.specs.Arith.{signed, register, less, wrapped, places, twoOf, oneOf, atomicOf, swapOf, addressOf}
 use Rattle.arith.proofs.Registers.{upper, shift-fits}

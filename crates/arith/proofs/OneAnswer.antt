@@ -4,10 +4,10 @@ use mathlib.Core.Path.{_≡_, sym, _∙_}
 use mathlib.Core.Bool.{Bool}
 use Prim.Native.Nat.{ℕ}
 use lib.IntN.{ℤ}
-use Rattle.words.specs.declared.instr.TwoOp.{TwoOp}
-use Rattle.words.specs.declared.instr.OneOp.{OneOp}
-use Rattle.words.specs.declared.instr.CompareOp.{CompareOp}
-use Rattle.words.specs.declared.instr.AtomicOp.{AtomicOp}
+use Rattle.instructions.specs.declared.instr.TwoOp.{TwoOp}
+use Rattle.instructions.specs.declared.instr.OneOp.{OneOp}
+use Rattle.instructions.specs.declared.instr.CompareOp.{CompareOp}
+use Rattle.instructions.specs.declared.instr.AtomicOp.{AtomicOp}
 use Rattle.arith.specs.Arith.{signed, register, less, addressOf, twoOf, divides, oneOf, compareOf, atomicOf, swapOf}
 
 -- two; add, sub, mul, mulhi, div, rem, udiv, urem, min, max, shl, shr, sar

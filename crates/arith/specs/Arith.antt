@@ -8,10 +8,10 @@ use lib.IntN.{ℤ, natAbs}
 use lib.Signed.{ltZ, quotZ, remZ, shrZ}
 use mir.Syntax.{w32}
 use mir.Val.{toZ, ofZ}
-use Rattle.words.specs.declared.instr.TwoOp.{TwoOp}
-use Rattle.words.specs.declared.instr.OneOp.{OneOp}
-use Rattle.words.specs.declared.instr.CompareOp.{CompareOp}
-use Rattle.words.specs.declared.instr.AtomicOp.{AtomicOp}
+use Rattle.instructions.specs.declared.instr.TwoOp.{TwoOp}
+use Rattle.instructions.specs.declared.instr.OneOp.{OneOp}
+use Rattle.instructions.specs.declared.instr.CompareOp.{CompareOp}
+use Rattle.instructions.specs.declared.instr.AtomicOp.{AtomicOp}
 
 -- a register read as a signed number
 abbrev pub signed : ℕ → ℤ

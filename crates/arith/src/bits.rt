@@ -1,7 +1,7 @@
 // A register's bits, and a count of them.
 ghost use mathlib.Core.Path.{_≡_};
 ghost use Rattle.arith.specs.Arith.{oneOf};
-use words::instr::OneOp;
+use instructions::instr::OneOp;
 
 // How many bits a register has.
 pub const BITS: u32 = 32;

@@ -7,7 +7,7 @@ use crate::signed::LEAST;
 use crate::signed::MINUS_ONE;
 use crate::signed::to_register;
 use crate::signed::to_signed;
-use words::instr::TwoOp;
+use instructions::instr::TwoOp;
 
 // Whether the operation faults on a divisor of zero.
 pub fn divides(op: TwoOp) -> bool

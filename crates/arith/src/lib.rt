@@ -26,10 +26,10 @@ use crate::signed::min;
 use crate::sums::add;
 use crate::sums::neg;
 use crate::sums::sub;
-use words::instr::AtomicOp;
-use words::instr::CompareOp;
-use words::instr::OneOp;
-use words::instr::TwoOp;
+use instructions::instr::AtomicOp;
+use instructions::instr::CompareOp;
+use instructions::instr::OneOp;
+use instructions::instr::TwoOp;
 
 // What `op` gives of RS1 and RS2.
 pub fn two(op: TwoOp, a: u32, b: u32) -> u32

@@ -1,7 +1,7 @@
 // The two halves of the unsigned product, worked out at 64 bits.
 ghost use mathlib.Core.Path.{_≡_};
 ghost use Rattle.arith.specs.Arith.{twoOf};
-use words::instr::TwoOp;
+use instructions::instr::TwoOp;
 
 // The low half.
 pub fn mul(a: u32, b: u32) -> u32

@@ -4,7 +4,7 @@ ghost use Rattle.arith.specs.Arith.{twoOf};
 use crate::bits::BITS;
 use crate::signed::to_register;
 use crate::signed::to_signed;
-use words::instr::TwoOp;
+use instructions::instr::TwoOp;
 
 // To the left, zeros coming in.
 pub fn shl(a: u32, b: u32) -> u32

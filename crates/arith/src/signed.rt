@@ -2,8 +2,8 @@
 ghost use mathlib.Core.Path.{_≡_};
 ghost use Rattle.arith.specs.Arith as arith;
 ghost use Rattle.arith.specs.Arith.{signed, register, twoOf, oneOf};
-use words::instr::OneOp;
-use words::instr::TwoOp;
+use instructions::instr::OneOp;
+use instructions::instr::TwoOp;
 
 // The register of the least signed number; a register from it on is negative.
 pub const LEAST: u32 = 0x8000_0000;

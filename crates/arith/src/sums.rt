@@ -1,8 +1,8 @@
 // Sums and differences, which wrap at 2^32.
 ghost use mathlib.Core.Path.{_≡_};
 ghost use Rattle.arith.specs.Arith.{twoOf, oneOf, addressOf};
-use words::instr::OneOp;
-use words::instr::TwoOp;
+use instructions::instr::OneOp;
+use instructions::instr::TwoOp;
 
 // An address: the base plus the offset.
 pub fn address(base: u32, offset: u32) -> u32

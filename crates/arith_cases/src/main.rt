@@ -2,11 +2,11 @@
 // tests/arith_cases.py works the same lines out from page 01.
 use arith::division::divides;
 use arith::sums::address;
+use instructions::instr::AtomicOp;
+use instructions::instr::CompareOp;
+use instructions::instr::OneOp;
+use instructions::instr::TwoOp;
 use libc::STDOUT_FILENO;
-use words::instr::AtomicOp;
-use words::instr::CompareOp;
-use words::instr::OneOp;
-use words::instr::TwoOp;
 
 // How many corner values there are.
 const CORNERS: u32 = 16;

@@ -9,16 +9,16 @@ use mathlib.Core.Logic.{_↔_, ⊎-elim}
 use lib.ListN.{length}
 use Rattle.ground.proofs.Bools.{never}
 use Rattle.ground.proofs.Tests.{true-or-false}
-use Rattle.words.specs.declared.instr.ControlOp.{ControlOp}
-use Rattle.words.specs.declared.instr.Instr.{Instr}
-use Rattle.words.specs.declared.instr.Op.{Op}
+use Rattle.instructions.specs.declared.instr.ControlOp.{ControlOp}
+use Rattle.instructions.specs.declared.instr.Instr.{Instr}
+use Rattle.instructions.specs.declared.instr.Op.{Op}
 use Rattle.words.specs.Layout.{wordsOf}
 use Rattle.words.specs.Refusals.{Rule, numberOf}
-use Rattle.words.specs.Registers.{registersBelow}
+use Rattle.instructions.specs.Registers.{registersBelow}
 use Rattle.words.proofs.Standing.{stood, standing, read-span}
 use Rattle.words.proofs.Verdicts.{Verdict, verdict}
 use Rattle.words.proofs.Theorems.{refuses}
-use Rattle.words.proofs.PastRegisters.{past-if}
+use Rattle.instructions.proofs.PastRegisters.{past-if}
 use Rattle.blocks.specs.declared.item.Item.{Item}
 use Rattle.blocks.specs.Item.{itemOf, itemAt}
 use Rattle.blocks.specs.Nesting.{Has, Alone, in-words, register-past}

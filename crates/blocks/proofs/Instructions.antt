@@ -4,11 +4,11 @@ use mathlib.Core.Path.{_≡_, refl}
 use mathlib.Core.Bool.{Bool, true, false, cond}
 use mathlib.Core.List.{List}
 use lib.ListN.{length}
-use Rattle.words.specs.declared.instr.Instr.{Instr}
+use Rattle.instructions.specs.declared.instr.Instr.{Instr}
 use Rattle.words.specs.declared.reading.ReadAnswer.{ReadAnswer}
-use Rattle.words.specs.Forms.{limitsOf, sizeOf}
+use Rattle.instructions.specs.Forms.{limitsOf, sizeOf}
 use Rattle.words.specs.Reading.{readAt}
-use Rattle.words.specs.Registers.{registersBelow}
+use Rattle.instructions.specs.Registers.{registersBelow}
 use Rattle.blocks.specs.declared.item.Item.{Item}
 use Rattle.blocks.specs.declared.structure.Checked.the-variants.{Fine}
 use Rattle.blocks.specs.Item.{itemOf, seen, itemAt}

@@ -5,14 +5,14 @@ use mathlib.Core.Path.{_≡_, refl, ap, _∙_}
 use mathlib.Core.Bool.{Bool, true, false, cond}
 use mathlib.Core.List.{List}
 use lib.ListN.{length, take, drop, length-take, length-drop}
-use Rattle.words.specs.declared.instr.ControlOp.{ControlOp}
-use Rattle.words.specs.declared.instr.Instr.{Instr}
-use Rattle.words.specs.declared.instr.Op.{Op}
+use Rattle.instructions.specs.declared.instr.ControlOp.{ControlOp}
+use Rattle.instructions.specs.declared.instr.Instr.{Instr}
+use Rattle.instructions.specs.declared.instr.Op.{Op}
 use Rattle.words.specs.declared.reading.ReadAnswer.{ReadAnswer}
-use Rattle.words.specs.Forms.{limitsOf, sizeOf}
+use Rattle.instructions.specs.Forms.{limitsOf, sizeOf}
 use Rattle.words.specs.Layout.{wordsOf}
 use Rattle.words.specs.Reading.{readAt}
-use Rattle.words.specs.Registers.{registersBelow}
+use Rattle.instructions.specs.Registers.{registersBelow}
 use Rattle.words.proofs.Sizes.{words-length, size-positive}
 use Rattle.words.proofs.Standing.{stood}
 use Rattle.blocks.specs.declared.item.Item.{Item}

@@ -2,11 +2,11 @@
 use Prim.Native.Nat.{ℕ}
 use mathlib.Core.Bool.{cond}
 use mathlib.Core.List.{List}
-use Rattle.words.specs.declared.instr.ControlOp.{ControlOp}
-use Rattle.words.specs.declared.instr.Op.{Op}
+use Rattle.instructions.specs.declared.instr.ControlOp.{ControlOp}
+use Rattle.instructions.specs.declared.instr.Op.{Op}
 use Rattle.words.specs.declared.reading.ReadAnswer.{ReadAnswer}
 use Rattle.words.specs.Reading.{readAt}
-use Rattle.words.specs.Registers.{registersBelow}
+use Rattle.instructions.specs.Registers.{registersBelow}
 use Rattle.blocks.specs.declared.item.Item.{Item}
 
 -- a control instruction, which is one word; HALT, BARRIER and NOP have no part in blocks

@@ -4,10 +4,10 @@ use mathlib.Core.Path.{_≡_}
 use mathlib.Core.Bool.{Bool, true, false}
 use mathlib.Core.List.{List, [], _∷_}
 use lib.ListN.{length}
-use Rattle.words.specs.declared.instr.Instr.{Instr}
+use Rattle.instructions.specs.declared.instr.Instr.{Instr}
 use Rattle.words.specs.Layout.{wordsOf}
 use Rattle.words.specs.Refusals.{Rule, numberOf}
-use Rattle.words.specs.Registers.{Past}
+use Rattle.instructions.specs.Registers.{Past}
 use Rattle.words.specs.Rules.{Stands, Breaks}
 use Rattle.blocks.specs.declared.item.Item.{Item}
 use Rattle.blocks.specs.declared.rules.Inside.{Inside}

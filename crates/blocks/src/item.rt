@@ -1,6 +1,6 @@
 // What the blocks see of an instruction. No other part of this crate looks at a word.
-use words::instr::ControlOp;
-use words::instr::Op;
+use instructions::instr::ControlOp;
+use instructions::instr::Op;
 use words::reading::ReadAnswer;
 ghost use mathlib.Core.Path.{_≡_};
 ghost use Rattle.blocks.specs.Item.{controlItem, itemOf, itemAt};
@@ -63,7 +63,7 @@ pub fn look(code: &[u32], registers: u32, at: usize) -> Item
     let answer = words::reading::read_at(code, at);
     match answer {
         ReadAnswer::Read { instr, words } => {
-            if words::registers::registers_below(instr, registers) {
+            if instructions::registers::registers_below(instr, registers) {
                 let op = instr.op;
                 item_of(op, words)
             } else {

@@ -4,14 +4,14 @@ use mathlib.Core.List.{List}
 use Prim.Native.Nat.{ℕ, _≤_, _<_}
 use lib.ListN.{length, getD}
 use Rattle.lanes.specs.Sets.{widest}
-use Rattle.words.specs.declared.instr.TwoOp.{TwoOp}
-use Rattle.words.specs.declared.instr.OneOp.{OneOp}
-use Rattle.words.specs.declared.instr.CompareOp.{CompareOp}
-use Rattle.words.specs.declared.instr.AtomicOp.{AtomicOp}
-use Rattle.words.specs.declared.instr.ControlOp.{ControlOp}
-use Rattle.words.specs.declared.instr.Space.{Space}
-use Rattle.words.specs.declared.instr.Op.{Op}
-use Rattle.words.specs.declared.instr.Instr.{Instr}
+use Rattle.instructions.specs.declared.instr.TwoOp.{TwoOp}
+use Rattle.instructions.specs.declared.instr.OneOp.{OneOp}
+use Rattle.instructions.specs.declared.instr.CompareOp.{CompareOp}
+use Rattle.instructions.specs.declared.instr.AtomicOp.{AtomicOp}
+use Rattle.instructions.specs.declared.instr.ControlOp.{ControlOp}
+use Rattle.instructions.specs.declared.instr.Space.{Space}
+use Rattle.instructions.specs.declared.instr.Op.{Op}
+use Rattle.instructions.specs.declared.instr.Instr.{Instr}
 use Rattle.arith.specs.Arith.{addressOf}
 use Rattle.compute.specs.declared.Shape.{Shape}
 use Rattle.compute.specs.declared.faults.Faults.{Faults}

@@ -12,11 +12,11 @@ use Rattle.ground.proofs.Choices.{cond-by}
 use Rattle.ground.proofs.Turns.{inOrder-idle}
 use Rattle.lanes.specs.Sets.{has, without, setOf}
 use Rattle.lanes.proofs.Members.{has-or, has-without, has-zero, has-set-of, has-ext}
-use Rattle.words.specs.declared.instr.Space.{Space}
-use Rattle.words.specs.declared.instr.ControlOp.{ControlOp}
-use Rattle.words.specs.declared.instr.Op.{Op}
-use Rattle.words.specs.declared.instr.Instr.{Instr}
-use Rattle.words.specs.Registers.{registersOf}
+use Rattle.instructions.specs.declared.instr.Space.{Space}
+use Rattle.instructions.specs.declared.instr.ControlOp.{ControlOp}
+use Rattle.instructions.specs.declared.instr.Op.{Op}
+use Rattle.instructions.specs.declared.instr.Instr.{Instr}
+use Rattle.instructions.specs.Registers.{registersOf}
 use Rattle.compute.specs.declared.Shape.{Shape}
 use Rattle.compute.specs.declared.faults.Faults.{Faults}
 use Rattle.compute.specs.Registers.{slotIn, writeLanes}

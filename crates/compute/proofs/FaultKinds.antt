@@ -11,8 +11,8 @@ use Rattle.lanes.specs.Sets.{has, setOf}
 use Rattle.lanes.proofs.Bits.{set-of-same}
 use Rattle.lanes.proofs.Members.{has-set-of}
 use Rattle.lanes.proofs.Picking.{set-of-none}
-use Rattle.words.specs.declared.instr.TwoOp.{TwoOp}
-use Rattle.words.specs.declared.instr.Space.{Space}
+use Rattle.instructions.specs.declared.instr.TwoOp.{TwoOp}
+use Rattle.instructions.specs.declared.instr.Space.{Space}
 use Rattle.arith.specs.Arith.{divides}
 use Rattle.compute.specs.Faulting.{isOdd, isPast, pastKind, addressFault, divisorFault, faultLanes, noFaults, kindsOf, ofAddresses, ofDivisors}
 use Rattle.compute.proofs.EveryKind.{faults-same}

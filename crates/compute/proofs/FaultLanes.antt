@@ -11,10 +11,10 @@ use Rattle.ground.proofs.Bools.{never, and-left, and-right}
 use Rattle.ground.proofs.Choices.{cond-by}
 use Rattle.lanes.specs.Sets.{has}
 use Rattle.lanes.proofs.Members.{has-and, has-zero, has-ext}
-use Rattle.words.specs.declared.instr.TwoOp.{TwoOp}
-use Rattle.words.specs.declared.instr.Space.{Space}
-use Rattle.words.specs.declared.instr.Op.{Op}
-use Rattle.words.specs.declared.instr.Instr.{Instr}
+use Rattle.instructions.specs.declared.instr.TwoOp.{TwoOp}
+use Rattle.instructions.specs.declared.instr.Space.{Space}
+use Rattle.instructions.specs.declared.instr.Op.{Op}
+use Rattle.instructions.specs.declared.instr.Instr.{Instr}
 use Rattle.arith.specs.Arith.{addressOf}
 use Rattle.compute.specs.declared.Shape.{Shape}
 use Rattle.compute.specs.declared.faults.Faults.{Faults}

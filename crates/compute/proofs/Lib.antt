@@ -10,6 +10,5 @@ pub mod Reaching
 pub mod Standing
 pub mod Arms
 pub mod Carrying
-pub mod LaneByLane
 pub mod FaultLanes
 pub mod OneAnswer

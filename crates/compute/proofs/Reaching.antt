@@ -18,7 +18,7 @@ use Rattle.ground.proofs.Bools.{and-left, and-right}
 use Rattle.ground.proofs.Tests.{all-at}
 use Rattle.lanes.specs.Sets.{has, setOf}
 use Rattle.lanes.proofs.Bits.{set-of-same}
-use Rattle.words.specs.declared.instr.Space.{Space}
+use Rattle.instructions.specs.declared.instr.Space.{Space}
 use Rattle.compute.specs.Memory.{wordOf}
 use Rattle.compute.specs.Faulting.{isOdd, isPast, pastKind, addressFault, noFaults, kindsOf}
 use Rattle.compute.proofs.FaultKinds.{no-kinds}

@@ -8,10 +8,10 @@ use lib.ListN.{length}
 use borrow.Author.Tests.{ltb-true, leb-true}
 use Rattle.ground.proofs.Bools.{and-left, and-right}
 use Rattle.lanes.specs.Sets.{widest}
-use Rattle.words.specs.declared.instr.Op.{Op}
-use Rattle.words.specs.declared.instr.Instr.{Instr}
-use Rattle.words.specs.declared.registers.Registers.{Registers}
-use Rattle.words.specs.Registers.{registersOf, below, registersBelow}
+use Rattle.instructions.specs.declared.instr.Op.{Op}
+use Rattle.instructions.specs.declared.instr.Instr.{Instr}
+use Rattle.instructions.specs.declared.registers.Registers.{Registers}
+use Rattle.instructions.specs.Registers.{registersOf, below, registersBelow}
 use Rattle.compute.specs.declared.Shape.{Shape}
 use Rattle.compute.specs.Registers.{Stands}
 use Rattle.compute.specs.Carrying.{inShape}

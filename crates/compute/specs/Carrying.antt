@@ -6,8 +6,8 @@ use mathlib.Core.List.{List}
 use lib.Dec.{leb}
 use lib.ListN.{length}
 use Rattle.lanes.specs.Sets.{widest}
-use Rattle.words.specs.declared.instr.Instr.{Instr}
-use Rattle.words.specs.Registers.{registersBelow}
+use Rattle.instructions.specs.declared.instr.Instr.{Instr}
+use Rattle.instructions.specs.Registers.{registersBelow}
 use Rattle.compute.specs.declared.Shape.{Shape}
 use Rattle.compute.specs.declared.faults.Faults.{Faults}
 use Rattle.compute.specs.declared.Carried.{Carried}

@@ -4,8 +4,8 @@ use mathlib.Core.Bool.{cond}
 use mathlib.Core.List.{List}
 use Prim.Native.Nat.{ℕ}
 use lib.ListN.{length, getD}
-use Rattle.words.specs.declared.instr.TwoOp.{TwoOp}
-use Rattle.words.specs.declared.instr.Space.{Space}
+use Rattle.instructions.specs.declared.instr.TwoOp.{TwoOp}
+use Rattle.instructions.specs.declared.instr.Space.{Space}
 use Rattle.compute.specs.declared.Shape.{Shape}
 use Rattle.compute.specs.declared.faults.Faults.{Faults}
 use Rattle.compute.specs.declared.memory.Change.{Change}

@@ -5,10 +5,10 @@ use mathlib.Core.List.{List, [], _∷_}
 use lib.Dec.{eqb, leb}
 use lib.ListN.{length, getD}
 use Rattle.lanes.specs.Sets.{has, setOf}
-use Rattle.words.specs.declared.instr.TwoOp.{TwoOp}
-use Rattle.words.specs.declared.instr.Op.{Op}
-use Rattle.words.specs.declared.instr.Space.{Space}
-use Rattle.words.specs.declared.instr.Instr.{Instr}
+use Rattle.instructions.specs.declared.instr.TwoOp.{TwoOp}
+use Rattle.instructions.specs.declared.instr.Op.{Op}
+use Rattle.instructions.specs.declared.instr.Space.{Space}
+use Rattle.instructions.specs.declared.instr.Instr.{Instr}
 use Rattle.arith.specs.Arith.{divides, addressOf}
 use Rattle.compute.specs.declared.faults.Faults.{Faults}
 use Rattle.compute.specs.Memory.{Memories, memoryOf, wordOf}

@@ -3,9 +3,9 @@ use Prim.Native.Nat.{ℕ}
 use mathlib.Core.Bool.{cond}
 use mathlib.Core.List.{List}
 use lib.ListN.{getD}
-use Rattle.words.specs.declared.instr.TwoOp.{TwoOp}
-use Rattle.words.specs.declared.instr.OneOp.{OneOp}
-use Rattle.words.specs.declared.instr.CompareOp.{CompareOp}
+use Rattle.instructions.specs.declared.instr.TwoOp.{TwoOp}
+use Rattle.instructions.specs.declared.instr.OneOp.{OneOp}
+use Rattle.instructions.specs.declared.instr.CompareOp.{CompareOp}
 use Rattle.arith.specs.Arith.{twoOf, oneOf, compareOf, atomicOf, swapOf}
 use Rattle.compute.specs.declared.Shape.{Shape}
 use Rattle.compute.specs.declared.memory.Change.{Change}

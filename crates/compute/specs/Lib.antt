@@ -6,4 +6,3 @@ pub mod Faulting
 pub mod Carrying
 pub mod Lanewise
 pub mod Classes
-pub mod Results

@@ -5,7 +5,7 @@ use mathlib.Core.List.{List}
 use lib.ListN.{getD, set}
 use Rattle.ground.specs.Lists.{inOrder}
 use Rattle.lanes.specs.Sets.{has}
-use Rattle.words.specs.declared.instr.Space.{Space}
+use Rattle.instructions.specs.declared.instr.Space.{Space}
 use Rattle.arith.specs.Arith.{addressOf}
 use Rattle.compute.specs.Registers.{byLane}
 

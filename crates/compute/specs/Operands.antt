@@ -2,9 +2,9 @@
 use Prim.Native.Nat.{ℕ}
 use mathlib.Core.Bool.{Bool, cond}
 use mathlib.Core.List.{List, []}
-use Rattle.words.specs.declared.instr.Instr.{Instr}
-use Rattle.words.specs.declared.registers.Registers.{Registers}
-use Rattle.words.specs.Registers.{registersOf}
+use Rattle.instructions.specs.declared.instr.Instr.{Instr}
+use Rattle.instructions.specs.declared.registers.Registers.{Registers}
+use Rattle.instructions.specs.Registers.{registersOf}
 use Rattle.compute.specs.declared.Shape.{Shape}
 use Rattle.compute.specs.Registers.{gatherOf}
 use Rattle.compute.specs.Memory.{Memories, memories}

@@ -16,9 +16,9 @@ use crate::memory::store_lanes;
 use crate::registers::gather;
 use crate::registers::write_lanes;
 use crate::two_operands::two_results;
+use instructions::instr::Space;
+use instructions::instr::TwoOp;
 use lanes::Lanes;
-use words::instr::Space;
-use words::instr::TwoOp;
 
 // Every lane's result, with the fault lanes beside it.
 pub struct Results {

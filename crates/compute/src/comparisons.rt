@@ -9,8 +9,8 @@ use crate::Shape;
 use crate::masks::chosen;
 use crate::masks::marked;
 use crate::registers::slot;
+use instructions::instr::CompareOp;
 use lanes::Lanes;
-use words::instr::CompareOp;
 
 fn compare_lanes(op: CompareOp, shape: Shape, regs: &[u32], rs1: u8, rs2: u8) -> [u32; 32]
     requires { ⌜ Stands shape (now regs) rs1 × Stands shape (now regs) rs2 ⌝ }

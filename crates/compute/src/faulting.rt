@@ -16,9 +16,9 @@ use crate::faults::of_addresses;
 use crate::faults::of_divisors;
 use crate::masks::marked;
 use crate::registers::slot;
+use instructions::instr::Space;
+use instructions::instr::TwoOp;
 use lanes::Lanes;
-use words::instr::Space;
-use words::instr::TwoOp;
 
 // The lanes whose address is not a multiple of 4, and those whose address is one and past the memory.
 struct Access {

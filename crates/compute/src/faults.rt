@@ -5,7 +5,7 @@ ghost use Prim.Native.Nat.{ℕ, _-_};
 ghost use lib.ListN.{getD};
 ghost use Rattle.compute.specs.Faulting.{ofKinds, noFaults, ofAddresses, ofDivisors, ofBarrier, clear, lanesOfKind};
 use lanes::Lanes;
-use words::instr::Space;
+use instructions::instr::Space;
 
 // How many kinds there are: their numbers are 1 to this.
 pub const KINDS: usize = 5;

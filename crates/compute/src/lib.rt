@@ -14,7 +14,7 @@ mod two_operands;
 ghost use mathlib.Core.Path.{_≡_};
 ghost use mathlib.Core.Bool.{true};
 ghost use Prim.Native.Nat.{ℕ};
-ghost use Rattle.words.specs.declared.instr.CompareOp.{CompareOp};
+ghost use Rattle.instructions.specs.declared.instr.CompareOp.{CompareOp};
 ghost use Rattle.compute.specs.Operands.{lent, operandsOf};
 ghost use Rattle.compute.specs.Carrying.{outcome, carried, inShape, havingRead, carriedOf};
 use crate::classes::carry_change;
@@ -30,11 +30,11 @@ use crate::faults::Faults;
 use crate::faults::no_faults;
 use crate::memory::Change;
 use crate::one_operand::one_results;
+use instructions::instr::Instr;
+use instructions::instr::Op;
+use instructions::registers::registers_below;
 use lanes::Lanes;
 use lanes::WIDEST;
-use words::instr::Instr;
-use words::instr::Op;
-use words::registers::registers_below;
 
 // The wave's lanes, and the registers of each.
 pub struct Shape {

@@ -12,8 +12,8 @@ use crate::Shape;
 use crate::masks::marked;
 use crate::masks::picks;
 use crate::registers::slot;
+use instructions::instr::AtomicOp;
 use lanes::Lanes;
-use words::instr::AtomicOp;
 
 // What an atomic does to the word that it finds: an operation with its operand, or compare-and-swap.
 pub enum Change {

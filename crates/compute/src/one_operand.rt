@@ -4,7 +4,7 @@ ghost use Rattle.compute.specs.Registers.{Stands};
 ghost use Rattle.compute.specs.Lanewise.{oneLanes};
 use crate::Shape;
 use crate::registers::slot;
-use words::instr::OneOp;
+use instructions::instr::OneOp;
 
 fn one_lanes(op: OneOp, shape: Shape, regs: &[u32], rs1: u8) -> [u32; 32]
     requires { ⌜ Stands shape (now regs) rs1 ⌝ }

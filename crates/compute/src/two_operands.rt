@@ -5,7 +5,7 @@ ghost use Rattle.compute.specs.Registers.{Stands};
 ghost use Rattle.compute.specs.Lanewise.{twoLanes};
 use crate::Shape;
 use crate::registers::slot;
-use words::instr::TwoOp;
+use instructions::instr::TwoOp;
 
 fn two_lanes(op: TwoOp, shape: Shape, regs: &[u32], rs1: u8, rs2: u8) -> [u32; 32]
     requires { ⌜ Stands shape (now regs) rs1 × Stands shape (now regs) rs2 ⌝ }

@@ -14,10 +14,10 @@ use Rattle.replay.specs.declared.settings.Settings.{Settings}
 use Rattle.replay.specs.Machine.{Machine}
 use Rattle.replay.specs.Run.{Ran, endedOf, stepAt, runOf}
 use Rattle.replay.specs.Replay.{mostSteps, launchTest, resumeTest, Answered, runFrom, launchOf, launchMachine, resumeOf, stateMachine}
-use Rattle.replay.specs.Calls.{budgeted}
+use Rattle.runs.specs.Calls.{budgeted}
 use Rattle.replay.proofs.Runs.{at-ended, at-budget, at-fault, at-clear, steps-most}
-use Rattle.replay.proofs.Returns.{launchable, passes, right-length, resumable, launched, resumed, run-budgeted}
-use Rattle.replay.proofs.Breaking.{launch-passes}
+use Rattle.runs.proofs.Returns.{launchable, passes, right-length, resumable, launched, resumed, run-budgeted}
+use Rattle.runs.proofs.Breaking.{launch-passes}
 use Rattle.demands.specs.Steps.{Step, taken, stepsOf}
 use Rattle.demands.specs.Seen.{stoodBefore, newestFirst, withBudget}
 use Rattle.demands.specs.History.{Buffers, Point, stepsIf, called, Start, byLaunch, fromState, Calls, testAt, firstAt, History}

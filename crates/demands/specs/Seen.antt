@@ -3,7 +3,7 @@ use mathlib.Core.List.{List, [], _∷_}
 use Prim.Native.Nat.{ℕ, zero, suc}
 use Rattle.wave.specs.declared.state.State.{State}
 use Rattle.replay.specs.Replay.{stateMachine}
-use Rattle.replay.specs.Calls.{budgeted}
+use Rattle.runs.specs.Calls.{budgeted}
 use Rattle.demands.specs.Steps.{Step, taken}
 use Rattle.demands.specs.History.{Calls}
 

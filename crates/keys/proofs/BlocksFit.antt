@@ -15,7 +15,7 @@ use Rattle.key.specs.Layout.{lastPlace, beforePart, loopPart, blockFits}
 use Rattle.wave.specs.declared.state.Block.{Block}
 use Rattle.wave.specs.Layout.{blockNumbers, pathNumbers, six, laid, arrayOf}
 use Rattle.wave.specs.Rules.{isLoop}
-use Rattle.wave.proofs.OpenBlocks.{Sized, AllSized}
+use Rattle.fits.proofs.OpenBlocks.{Sized, AllSized}
 use Rattle.replay.specs.Replay.{mostWords}
 use Rattle.keys.specs.Key.{blockOf}
 

@@ -13,21 +13,21 @@ use Rattle.lanes.proofs.Bits.{within-first-lt}
 use Rattle.numbers.specs.Numbers.{bound, Small}
 use Rattle.words.specs.Fetching.{instrAt}
 use Rattle.wave.specs.Wave.{stateOf}
-use Rattle.wave.proofs.AtLane.{launched, fits-lanes}
-use Rattle.wave.proofs.Keeps.{active-launched}
+use Rattle.fits.proofs.AtLane.{launched, fits-lanes}
+use Rattle.fits.proofs.Keeps.{active-launched}
 use Rattle.wave.proofs.Laying.{length-array}
-use Rattle.wave.proofs.Stays.{path-room}
-use Rattle.wave.proofs.OpenBlocks.{AllSized, path-sized}
+use Rattle.fits.proofs.Stays.{path-room}
+use Rattle.fits.proofs.OpenBlocks.{AllSized, path-sized}
 use Rattle.compute.specs.declared.faults.Faults.{Faults}
 use Rattle.compute.specs.Faulting.{lanesOfKind}
 use Rattle.compute.proofs.FaultLanes.{Apart}
 use Rattle.replay.specs.declared.settings.Settings.{Settings}
 use Rattle.replay.specs.Machine.{Machine}
 use Rattle.replay.specs.Replay.{mostWords}
-use Rattle.replay.proofs.Keeping.{inside}
-use Rattle.replay.proofs.Stopping.{FaultsAt}
+use Rattle.runs.proofs.Keeping.{inside}
+use Rattle.runs.proofs.Stopping.{FaultsAt}
 use Rattle.replay.proofs.FaultKinds.{Faulty, step-faulty, step-apart, Lanes, step-lanes}
-use Rattle.replay.proofs.Returns.{Launchable, lanes-most, InOrder}
+use Rattle.runs.proofs.Returns.{Launchable, lanes-most, InOrder}
 use Rattle.key.specs.Body.{numbersOf}
 use Rattle.key.specs.Layout.{mostDepth, blockFits, fitsLayout}
 use Rattle.key.proofs.Starts.{of-fits}

@@ -32,8 +32,8 @@ use Rattle.replay.specs.Machine.{Machine}
 use Rattle.replay.specs.Step.{stepOf}
 use Rattle.replay.specs.Run.{Ran, runOf}
 use Rattle.replay.specs.Replay.{mostWords, mostSteps, ending, launchMachine, launchOf}
-use Rattle.replay.proofs.Adding.{following, runs-add}
-use Rattle.replay.proofs.Returns.{Launchable, passes, launched as launch-run}
+use Rattle.runs.proofs.Adding.{following, runs-add}
+use Rattle.runs.proofs.Returns.{Launchable, passes, launched as launch-run}
 use Rattle.numbers.specs.Numbers.{bytesOf, bytesOfAll}
 use Rattle.numbers.proofs.Placing.{placed-front}
 use Rattle.key.specs.Body.{Fault, Block, Parts, twoOf, sixOf, numbersOf, bytesOfBody}

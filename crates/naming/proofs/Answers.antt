@@ -10,8 +10,8 @@ use lib.Dec.{leb}
 use lib.ListN.{length, take, drop}
 use lib.Seq.{take-append-seam}
 use borrow.Author.Tests.{leb-true, leb-false, lt-leb}
-use Rattle.words.specs.declared.instr.Instr.{Instr}
-use Rattle.words.specs.Forms.{valid}
+use Rattle.instructions.specs.declared.instr.Instr.{Instr}
+use Rattle.instructions.specs.Forms.{valid}
 use Rattle.words.specs.Refusals.{Rule, numberOf}
 use Rattle.naming.specs.declared.TextAnswer.{TextAnswer}
 use Rattle.naming.specs.Text.{textOf}

@@ -7,14 +7,14 @@ use Prim.Native.Nat.{ℕ}
 use Prim.Native.String.{String}
 use lib.ListN.{length}
 use Rattle.ground.specs.Tests.{sameList}
-use Rattle.words.specs.declared.instr.TwoOp.{TwoOp}
-use Rattle.words.specs.declared.instr.CompareOp.{CompareOp}
-use Rattle.words.specs.declared.instr.OneOp.{OneOp}
-use Rattle.words.specs.declared.instr.AtomicOp.{AtomicOp}
-use Rattle.words.specs.declared.instr.ControlOp.{ControlOp}
-use Rattle.words.specs.declared.instr.Space.{Space}
-use Rattle.words.specs.declared.instr.Op.{Op}
-use Rattle.words.specs.declared.instr.Instr.{Instr}
+use Rattle.instructions.specs.declared.instr.TwoOp.{TwoOp}
+use Rattle.instructions.specs.declared.instr.CompareOp.{CompareOp}
+use Rattle.instructions.specs.declared.instr.OneOp.{OneOp}
+use Rattle.instructions.specs.declared.instr.AtomicOp.{AtomicOp}
+use Rattle.instructions.specs.declared.instr.ControlOp.{ControlOp}
+use Rattle.instructions.specs.declared.instr.Space.{Space}
+use Rattle.instructions.specs.declared.instr.Op.{Op}
+use Rattle.instructions.specs.declared.instr.Instr.{Instr}
 use Rattle.words.specs.Layout.{instr}
 use Rattle.naming.specs.Bytes.{ascii, word, rest}
 use Rattle.naming.specs.Numerals.{digits, places, numeral, behind, numberIn}

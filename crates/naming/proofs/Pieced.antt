@@ -7,9 +7,9 @@ use native.Mathlib.Omega.{arith}
 use lib.ListN.{length, getD}
 use Rattle.ground.specs.Tests.{sameList, allOf}
 use Rattle.ground.proofs.Tests.{same-true}
-use Rattle.words.specs.declared.instr.Op.{Op}
-use Rattle.words.specs.declared.instr.Instr.{Instr}
-use Rattle.words.specs.Table.{operations}
+use Rattle.instructions.specs.declared.instr.Op.{Op}
+use Rattle.instructions.specs.declared.instr.Instr.{Instr}
+use Rattle.instructions.specs.Table.{operations}
 use Rattle.naming.specs.declared.operands.Fields.{Fields}
 use Rattle.naming.specs.Bytes.{ascii}
 use Rattle.naming.specs.Names.{nameOf}

@@ -8,11 +8,11 @@ use lib.Dec.{leb}
 use lib.ListN.{length, length-append}
 use borrow.Author.Tests.{leb-true}
 use Rattle.ground.specs.Tests.{allOf}
-use Rattle.words.specs.declared.instr.Op.{Op}
-use Rattle.words.specs.declared.instr.Instr.{Instr}
-use Rattle.words.specs.declared.forms.Second.{Second}
-use Rattle.words.specs.Table.{operations}
-use Rattle.words.specs.Forms.{limitsOf, valid}
+use Rattle.instructions.specs.declared.instr.Op.{Op}
+use Rattle.instructions.specs.declared.instr.Instr.{Instr}
+use Rattle.instructions.specs.declared.forms.Second.{Second}
+use Rattle.instructions.specs.Table.{operations}
+use Rattle.instructions.specs.Forms.{limitsOf, valid}
 use Rattle.words.proofs.Validity.{SecondSmall, fields}
 use Rattle.naming.specs.Names.{nameOf}
 use Rattle.naming.specs.Templates.{Kind, Item, get, template}

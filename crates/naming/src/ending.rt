@@ -1,7 +1,7 @@
 // What follows the operands: the scope and the predicate, each only if it isn't 0.
 use crate::numerals::decimal;
 use crate::pieces::put_pieces;
-use words::instr::Guard;
+use instructions::instr::Guard;
 ghost use mathlib.Core.Path.{_≡_};
 ghost use mathlib.Core.Bool.{cond};
 ghost use Prim.Native.Nat.{_+_, _≤_};

@@ -2,13 +2,13 @@
 ghost use mathlib.Core.Path.{_≡_};
 ghost use Rattle.naming.specs.Names.{twoName, compareName, oneName, spaceName, atomicName, controlName};
 ghost use Rattle.naming.specs.Pieces.{packed, nameParts};
-use words::instr::AtomicOp;
-use words::instr::CompareOp;
-use words::instr::ControlOp;
-use words::instr::OneOp;
-use words::instr::Op;
-use words::instr::Space;
-use words::instr::TwoOp;
+use instructions::instr::AtomicOp;
+use instructions::instr::CompareOp;
+use instructions::instr::ControlOp;
+use instructions::instr::OneOp;
+use instructions::instr::Op;
+use instructions::instr::Space;
+use instructions::instr::TwoOp;
 
 // The name of an operation of two registers.
 fn two_name(op: TwoOp) -> u64

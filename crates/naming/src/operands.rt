@@ -1,8 +1,8 @@
 // The operands of an instruction, in eight pieces.
 use crate::numerals::decimal;
 use crate::numerals::numeral_of;
-use words::instr::Instr;
-use words::instr::Op;
+use instructions::instr::Instr;
+use instructions::instr::Op;
 ghost use mathlib.Core.Path.{_≡_};
 ghost use mathlib.Core.List.{[]};
 ghost use lib.ListN.{getD};

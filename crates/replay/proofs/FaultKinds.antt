@@ -7,9 +7,9 @@ use native.Mathlib.Omega.{arith}
 use Rattle.lanes.specs.Sets.{bit}
 use Rattle.lanes.proofs.Bits.{bit-zero}
 use Rattle.lanes.proofs.Members.{has-le}
-use Rattle.words.specs.declared.instr.ControlOp.{ControlOp}
-use Rattle.words.specs.declared.instr.ControlOp.the-variants.{If, Else, Endif, Loop, Break, Continue, Endloop, Halt, Barrier, Nop}
-use Rattle.words.specs.declared.instr.Instr.{Instr}
+use Rattle.instructions.specs.declared.instr.ControlOp.{ControlOp}
+use Rattle.instructions.specs.declared.instr.ControlOp.the-variants.{If, Else, Endif, Loop, Break, Continue, Endloop, Halt, Barrier, Nop}
+use Rattle.instructions.specs.declared.instr.Instr.{Instr}
 use Rattle.words.specs.declared.fetching.ControlIn.{ControlIn}
 use Rattle.words.specs.Fetching.{controlIn}
 use Rattle.wave.specs.Wave.{Wave}

@@ -1,15 +1,6 @@
-pub mod Allowing
 pub mod Runs
 pub mod Turns
-pub mod Adding
-pub mod Keeping
-pub mod Stopping
 pub mod FaultKinds
-pub mod Returns
-pub mod Refusing
-pub mod Breaking
-pub mod Running
-pub mod StepLanes
 pub mod Naming
 pub mod Stepping
 pub mod Entering

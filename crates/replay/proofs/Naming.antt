@@ -7,9 +7,9 @@ use native.Mathlib.Omega.{arith}
 use lib.Dec.{eqb}
 use Rattle.lanes.specs.Sets.{bit}
 use Rattle.lanes.proofs.Bits.{bit-zero}
-use Rattle.words.specs.declared.instr.Instr.{Instr}
+use Rattle.instructions.specs.declared.instr.Instr.{Instr}
 use Rattle.wave.specs.Wave.{Preds}
-use Rattle.wave.proofs.AtLane.{PredsFit}
+use Rattle.fits.proofs.AtLane.{PredsFit}
 use Rattle.compute.specs.Operands.{Lent}
 use Rattle.replay.specs.Machine.{Machine, named, preds, withNamed}
 

@@ -7,12 +7,12 @@ use native.Mathlib.Nat.{min-le-right, min-eq-left}
 use lib.Dec.{eqb}
 use lib.ListN.{length}
 use Rattle.ground.proofs.Bools.{never}
-use Rattle.words.specs.declared.instr.Instr.{Instr}
-use Rattle.words.specs.declared.instr.ControlOp.{ControlOp}
+use Rattle.instructions.specs.declared.instr.Instr.{Instr}
+use Rattle.instructions.specs.declared.instr.ControlOp.{ControlOp}
 use Rattle.words.specs.declared.fetching.ControlIn.{ControlIn}
-use Rattle.words.specs.Forms.{size}
+use Rattle.instructions.specs.Forms.{size}
 use Rattle.words.specs.Fetching.{controlIn}
-use Rattle.words.specs.declared.instr.ControlOp.the-variants.{If, Else, Endif, Loop, Break, Continue, Endloop, Halt, Barrier, Nop}
+use Rattle.instructions.specs.declared.instr.ControlOp.the-variants.{If, Else, Endif, Loop, Break, Continue, Endloop, Halt, Barrier, Nop}
 use Rattle.words.proofs.Fetches.{control-is}
 use Rattle.wave.specs.declared.state.Hot.{Hot}
 use Rattle.wave.specs.declared.rules.Stepped.{Stepped}

@@ -9,7 +9,7 @@ use Rattle.blocks.specs.Code.{codeOf}
 use Rattle.blocks.specs.Scan.{checkOf}
 use Rattle.wave.specs.declared.state.State.{State}
 use Rattle.wave.specs.Wave.{stateOf, launch, clear}
-use Rattle.wave.specs.FitsTest.{fitsTest}
+use Rattle.fits.specs.FitsTest.{fitsTest}
 use Rattle.compute.specs.Memory.{Memories, memories}
 use Rattle.replay.specs.declared.settings.Settings.{Settings}
 use Rattle.replay.specs.declared.answers.Outcome.{Outcome}

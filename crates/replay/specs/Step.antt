@@ -3,10 +3,10 @@ use Prim.Native.Nat.{ℕ, min}
 use mathlib.Core.Bool.{cond}
 use mathlib.Core.List.{List}
 use Rattle.lanes.specs.Sets.{widest, first}
-use Rattle.words.specs.declared.instr.Op.{Op}
-use Rattle.words.specs.declared.instr.Instr.{Instr}
+use Rattle.instructions.specs.declared.instr.Op.{Op}
+use Rattle.instructions.specs.declared.instr.Instr.{Instr}
 use Rattle.words.specs.declared.fetching.ControlIn.{ControlIn}
-use Rattle.words.specs.Forms.{size}
+use Rattle.instructions.specs.Forms.{size}
 use Rattle.words.specs.Fetching.{controlIn}
 use Rattle.wave.specs.Wave.{Wave}
 use Rattle.wave.specs.Rules.{executingOf, onwardBy}

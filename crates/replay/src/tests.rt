@@ -2,7 +2,7 @@
 use crate::settings::Settings;
 use blocks::structure::Checked;
 use blocks::structure::check;
-use wave::fits::fits;
+use fits::fits;
 use wave::state::State;
 ghost use mathlib.Core.Path.{_≡_};
 ghost use lib.ListN.{length};

@@ -32,10 +32,10 @@ use Rattle.replay.specs.Replay.{
   launchOf,
   resumeOf,
 }
-use Rattle.replay.specs.Calls.{budgeted, resumedWith, added}
+use Rattle.runs.specs.Calls.{budgeted, resumedWith, added}
 use Rattle.replay.proofs.Runs.{at-ended, at-budget, at-fault, at-clear}
-use Rattle.replay.proofs.Adding.{following, runs-add}
-use Rattle.replay.proofs.Returns.{run-budgeted, launch-adds, resume-adds}
+use Rattle.runs.proofs.Adding.{following, runs-add}
+use Rattle.runs.proofs.Returns.{run-budgeted, launch-adds, resume-adds}
 use Rattle.replay_capture.specs.Starting.{startOf, stopped, goneOn, finished}
 
 -- ---- a run makes no more steps than its budget

@@ -6,7 +6,7 @@ use Rattle.wave.specs.declared.state.State.{State}
 use Rattle.replay.specs.declared.settings.Settings.{Settings}
 use Rattle.replay.specs.declared.answers.Outcome.{Outcome}
 use Rattle.replay.specs.Replay.{Answered, launchOf, resumeOf}
-use Rattle.replay.specs.Calls.{resumedWith, added}
+use Rattle.runs.specs.Calls.{resumedWith, added}
 
 -- a launch, or going on with the state
 unfoldable pub startOf : Bool → Settings → State → List ℕ → List ℕ → List ℕ → List ℕ → Answered

@@ -23,7 +23,7 @@ use wave::state::OPENER;
 use wave::state::State;
 use wave::state::depth_of;
 use wave::state::whole;
-use words::instr::Instr;
+use instructions::instr::Instr;
 use words::reading::ReadAnswer;
 use words::reading::read_at;
 

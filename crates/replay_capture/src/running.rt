@@ -13,7 +13,7 @@ use wave::state::State;
 ghost use mathlib.Core.Path.{_≡_};
 ghost use Prim.Native.Nat.{_+_, _≤_, min};
 ghost use Rattle.replay.specs.Replay.{mostSteps, answered, resumeOf};
-ghost use Rattle.replay.specs.Calls.{budgeted as withBudget, added};
+ghost use Rattle.runs.specs.Calls.{budgeted as withBudget, added};
 ghost use Rattle.replay_capture.specs.Starting.{startOf, stopped};
 
 // The steps of the first slice, soon over, and of each later one.

@@ -1,9 +1,9 @@
 // Asks of the states on the standard input whether they fit. A case is a line of hexadecimal numbers, with a space between two: the number of
 // registers, the launched lanes n, how many words the code has, the code, the seven hot numbers, and numbers of the open blocks (0 where the
 // line ends first). For each it writes a line, `fits` or `11`.
+use fits::fits;
 use libc::STDIN_FILENO;
 use libc::STDOUT_FILENO;
-use wave::fits::fits;
 use wave::state::Hot;
 use wave::state::PATH_NUMBERS;
 ghost use Prim.Native.Nat.{_≤_, _+_};

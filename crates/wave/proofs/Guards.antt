@@ -3,7 +3,7 @@ use mathlib.Core.Bool.{Bool, true, false, cond}
 use Prim.Native.Nat.{ℕ, _≤_}
 use native.Mathlib.Omega.{arith}
 use lib.Bits.{bitAnd}
-use Rattle.words.specs.declared.instr.Guard.{Guard}
+use Rattle.instructions.specs.declared.instr.Guard.{Guard}
 use Rattle.lanes.specs.Sets.{bit, without}
 use Rattle.lanes.proofs.Bits.{bit-and, bit-without}
 use Rattle.wave.specs.Wave.{Preds}

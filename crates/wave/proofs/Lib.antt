@@ -4,12 +4,4 @@ pub mod Ruling
 pub mod View
 pub mod Tidying
 pub mod Guards
-pub mod Testing
-pub mod Comparing
-pub mod AtLane
-pub mod Fitting
-pub mod Keeps
-pub mod Stays
-pub mod OpenBlocks
 pub mod OneAnswer
-pub mod Opens

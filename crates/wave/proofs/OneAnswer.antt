@@ -1,10 +1,9 @@
 -- The promise of each public function allows one answer, and one later content of what it was lent.
 use mathlib.Core.Path.{_≡_, ap, sym, _∙_}
-use mathlib.Core.Bool.{Bool}
 use mathlib.Core.List.{List, []}
 use Prim.Native.Nat.{ℕ, min}
-use Rattle.words.specs.declared.instr.ControlOp.{ControlOp}
-use Rattle.words.specs.declared.instr.Guard.{Guard}
+use Rattle.instructions.specs.declared.instr.ControlOp.{ControlOp}
+use Rattle.instructions.specs.declared.instr.Guard.{Guard}
 use Rattle.lanes.specs.Sets.{widest}
 use Rattle.blocks.specs.Scan.{nesting}
 use Rattle.wave.specs.declared.state.Hot.{Hot}
@@ -13,7 +12,6 @@ use Rattle.wave.specs.declared.rules.Stepped.{Stepped}
 use Rattle.wave.specs.Wave.{waveOf, predsOf, hotOf, Held, held, tidied, stateOf, launch, clear}
 use Rattle.wave.specs.Rules.{onwardBy, executingOf}
 use Rattle.wave.specs.Control.{Given, given, controlOf}
-use Rattle.wave.specs.FitsTest.{fitsTest}
 
 pub one-depth : (d r q : ℕ) → r ≡ min d nesting → q ≡ min d nesting → r ≡ q
 one-depth d r q e f = e ∙ sym f
@@ -30,10 +28,6 @@ one-executing g h r q e f = e ∙ sym f
 pub one-onward : (size : ℕ) (h r q : Hot) → ((xs : List ℕ) → r ≡ hotOf (onwardBy size (waveOf h xs)) (predsOf h))
     → ((xs : List ℕ) → q ≡ hotOf (onwardBy size (waveOf h xs)) (predsOf h)) → r ≡ q
 one-onward size h r q e f = e [] ∙ sym (f [])
-
-pub one-fits : (code : List ℕ) (registers n : ℕ) (h : Hot) (xs : List ℕ) (r q : Bool) → r ≡ fitsTest code registers n h xs
-    → q ≡ fitsTest code registers n h xs → r ≡ q
-one-fits code registers n h xs r q e f = e ∙ sym f
 
 -- lent xs, the one left ys and the other zs
 pub one-tidy : (h : Hot) (xs : List ℕ) (r q : Hot) (ys zs : List ℕ)

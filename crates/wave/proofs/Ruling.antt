@@ -9,7 +9,7 @@ use native.Mathlib.Omega.{arith}
 use borrow.Author.Tests.{ne-eqb, lt-ltb}
 use lib.ListN.{length, getD, set, drop, length-map, length-drop}
 use lib.Bits.{bitOr}
-use Rattle.words.specs.declared.instr.ControlOp.{ControlOp}
+use Rattle.instructions.specs.declared.instr.ControlOp.{ControlOp}
 use Rattle.lanes.specs.Sets.{without}
 use Rattle.wave.specs.declared.state.Block.{Block}
 use Rattle.wave.specs.declared.state.Hot.{Hot}

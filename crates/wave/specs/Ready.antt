@@ -4,8 +4,8 @@ use mathlib.Core.Bool.{Bool, true, false, cond}
 use mathlib.Core.List.{List, [], _∷_}
 use Prim.Native.Nat.{ℕ, _<_}
 use lib.ListN.{length}
-use Rattle.words.specs.declared.instr.ControlOp.{ControlOp}
-use Rattle.words.specs.declared.instr.ControlOp.the-variants.{If, Else, Endif, Loop, Break, Continue, Endloop, Halt, Barrier, Nop}
+use Rattle.instructions.specs.declared.instr.ControlOp.{ControlOp}
+use Rattle.instructions.specs.declared.instr.ControlOp.the-variants.{If, Else, Endif, Loop, Break, Continue, Endloop, Halt, Barrier, Nop}
 use Rattle.lanes.specs.Sets.{without}
 use Rattle.wave.specs.declared.state.Block.{Block}
 use Rattle.blocks.specs.Scan.{nesting}

@@ -5,7 +5,7 @@ use Prim.Native.Nat.{ℕ, _+_, _%_, _^_}
 use lib.ListN.{length}
 use lib.Bits.{bitAnd, bitOr}
 use lib.Dec.{eqb, ltb}
-use Rattle.words.specs.declared.instr.Guard.{Guard}
+use Rattle.instructions.specs.declared.instr.Guard.{Guard}
 use Rattle.lanes.specs.Sets.{without}
 use Rattle.wave.specs.declared.state.Block.{Block}
 use Rattle.blocks.specs.Scan.{nesting}

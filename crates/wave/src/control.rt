@@ -12,8 +12,8 @@ use crate::rules::opening::open_if;
 use crate::rules::opening::open_loop;
 use crate::state::Hot;
 use crate::state::PATH_NUMBERS;
+use instructions::instr::ControlOp;
 use lanes::Lanes;
-use words::instr::ControlOp;
 ghost use mathlib.Core.Path.{_≡_};
 ghost use Rattle.wave.specs.Control.{given, controlOf};
 

@@ -1,6 +1,5 @@
-// The wave: its state, the control rules, and when a handed-in state fits.
+// The wave: its state and the control rules.
 pub mod control;
-pub mod fits;
 pub mod launch;
 pub mod rules;
 pub mod state;

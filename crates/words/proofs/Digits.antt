@@ -4,7 +4,7 @@ use mathlib.Core.Bool.{Bool, true, false, cond}
 use Prim.Native.Nat.{ℕ, _≤_, _<_, _+_, _*_, _/_, _^_}
 use native.Mathlib.Omega.{arith}
 use borrow.Author.Needs.{needs}
-use Rattle.words.specs.declared.instr.Guard.{Guard}
+use Rattle.instructions.specs.declared.instr.Guard.{Guard}
 use Rattle.words.specs.Layout.{negateBit, opcodeIn, rdIn, rs1In, modifierIn, bit3In, negateIn, predIn, rs2In, rs3In, rs4In, spareIn, scopeIn}
 
 bit-small : (b : Bool) → cond b (2 ^ 2) 0 ≤ 4

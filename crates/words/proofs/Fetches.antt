@@ -7,16 +7,16 @@ use native.Mathlib.Omega.{arith}
 use lib.Dec.{ltb}
 use lib.ListN.{length, getD, drop, drop-of-length-le}
 use lib.Seq.{drop-cons, getD-drop}
-use Rattle.words.specs.declared.instr.ControlOp.{ControlOp}
-use Rattle.words.specs.declared.instr.Instr.{Instr}
-use Rattle.words.specs.declared.instr.Op.{Op}
-use Rattle.words.specs.declared.forms.Second.{Second}
-use Rattle.words.specs.declared.forms.Limits.{Limits}
+use Rattle.instructions.specs.declared.instr.ControlOp.{ControlOp}
+use Rattle.instructions.specs.declared.instr.Instr.{Instr}
+use Rattle.instructions.specs.declared.instr.Op.{Op}
+use Rattle.instructions.specs.declared.forms.Second.{Second}
+use Rattle.instructions.specs.declared.forms.Limits.{Limits}
 use Rattle.words.specs.declared.fetching.ControlIn.{ControlIn}
 use Rattle.words.specs.declared.reading.ReadAnswer.{ReadAnswer}
-use Rattle.words.specs.declared.table.FoundOp.{FoundOp}
-use Rattle.words.specs.Table.{opOf}
-use Rattle.words.specs.Forms.{limitsOf, sizeOf, size, fits}
+use Rattle.instructions.specs.declared.table.FoundOp.{FoundOp}
+use Rattle.instructions.specs.Table.{opOf}
+use Rattle.instructions.specs.Forms.{limitsOf, sizeOf, size, fits}
 use Rattle.words.specs.Layout.{opcodeIn, modifierIn, instrIn, spareZero}
 use Rattle.words.specs.Reading.{readFields, readOp, readFrom, readAt}
 use Rattle.words.specs.Fetching.{nop, saidBy, saidFrom, instrAt, controlIn}

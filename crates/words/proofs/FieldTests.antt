@@ -6,11 +6,11 @@ use mathlib.Core.Bool.{Bool, true, false, not, _&&_}
 use lib.Dec.{eqb, leb, ltb}
 use borrow.Author.Tests.{leb-true, le-leb, lt-ltb, eqb-true, eq-eqb, ne-eqb}
 use Rattle.ground.proofs.Bools.{never, and-left, and-right}
-use Rattle.words.specs.declared.instr.Op.{Op}
-use Rattle.words.specs.declared.forms.Need.{Need}
-use Rattle.words.specs.declared.forms.Second.{Second}
-use Rattle.words.specs.declared.forms.Limits.{Limits}
-use Rattle.words.specs.Forms.{form, needMet, guardFits, secondFits, fits}
+use Rattle.instructions.specs.declared.instr.Op.{Op}
+use Rattle.instructions.specs.declared.forms.Need.{Need}
+use Rattle.instructions.specs.declared.forms.Second.{Second}
+use Rattle.instructions.specs.declared.forms.Limits.{Limits}
+use Rattle.instructions.specs.Forms.{form, needMet, guardFits, secondFits, fits}
 use Rattle.words.specs.Layout.{instrIn, guardIn, spareZero, secondSpare}
 use Rattle.words.specs.Layout.{rdIn, rs1In, bit3In, negateIn, predIn, rs2In, rs3In, rs4In, spareIn, scopeIn}
 use Rattle.words.specs.Rules.{Needed, SecondAllowed, Allowed}

@@ -9,17 +9,17 @@ use lib.Dec.{eqb, ltb}
 use lib.ListN.{length, getD, drop}
 use borrow.Author.Tests.{eqb-true, eqb-false, ltb-false}
 use Rattle.ground.proofs.Bools.{and-left, and-right}
-use Rattle.words.specs.declared.instr.Op.{Op}
-use Rattle.words.specs.declared.instr.Instr.{Instr}
-use Rattle.words.specs.declared.table.FoundOp.{FoundOp}
-use Rattle.words.specs.declared.forms.Second.{Second}
+use Rattle.instructions.specs.declared.instr.Op.{Op}
+use Rattle.instructions.specs.declared.instr.Instr.{Instr}
+use Rattle.instructions.specs.declared.table.FoundOp.{FoundOp}
+use Rattle.instructions.specs.declared.forms.Second.{Second}
 use Rattle.words.specs.declared.reading.ReadAnswer.{ReadAnswer}
-use Rattle.words.specs.Table.{opcodeOf, modifierOf, opOf}
-use Rattle.words.specs.Forms.{limitsOf, sizeOf, fits, valid}
+use Rattle.instructions.specs.Table.{opcodeOf, modifierOf, opOf}
+use Rattle.instructions.specs.Forms.{limitsOf, sizeOf, fits, valid}
 use Rattle.words.specs.Layout.{firstWord, instrIn, restOf, secondSpare, spareZero, wordsOf, opcodeIn, modifierIn, bit3In, negateIn, rs4In, spareIn}
 use Rattle.words.specs.Refusals.{Rule}
 use Rattle.words.specs.Reading.{refused, readFields, readOp, readFrom}
-use Rattle.words.proofs.Lookup.{op-opcode, op-modifier}
+use Rattle.instructions.proofs.Lookup.{op-opcode, op-modifier}
 use Rattle.words.proofs.Sizes.{words-length}
 use Rattle.words.proofs.Digits.{whole-word, whole-pair}
 

@@ -7,13 +7,13 @@ use native.Mathlib.Omega.{arith}
 use lib.ListN.{length, getD, drop, length-drop, drop-of-length-le}
 use lib.Seq.{drop-cons, getD-drop}
 use borrow.Author.Tests.{le-ltb, lt-ltb}
-use Rattle.words.specs.declared.instr.Op.{Op}
-use Rattle.words.specs.declared.instr.Instr.{Instr}
-use Rattle.words.specs.declared.table.FoundOp.{FoundOp}
-use Rattle.words.specs.declared.forms.Limits.{Limits}
+use Rattle.instructions.specs.declared.instr.Op.{Op}
+use Rattle.instructions.specs.declared.instr.Instr.{Instr}
+use Rattle.instructions.specs.declared.table.FoundOp.{FoundOp}
+use Rattle.instructions.specs.declared.forms.Limits.{Limits}
 use Rattle.words.specs.declared.reading.ReadAnswer.{ReadAnswer}
-use Rattle.words.specs.Table.{opOf}
-use Rattle.words.specs.Forms.{limitsOf, sizeOf, fits}
+use Rattle.instructions.specs.Table.{opOf}
+use Rattle.instructions.specs.Forms.{limitsOf, sizeOf, fits}
 use Rattle.words.specs.Layout.{instrIn, spareZero, opcodeIn, modifierIn}
 use Rattle.words.specs.Refusals.{Rule}
 use Rattle.words.specs.Reading.{refused, readFields, readOp, readAt}

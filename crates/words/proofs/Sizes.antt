@@ -5,9 +5,9 @@ use Prim.Native.Nat.{ℕ, suc, _≤_}
 use native.Mathlib.Omega.{arith}
 use lib.ListN.{length, getD}
 use borrow.Author.Needs.{needs}
-use Rattle.words.specs.declared.instr.Instr.{Instr}
-use Rattle.words.specs.declared.forms.Second.{Second}
-use Rattle.words.specs.Forms.{limitsOf, sizeOf}
+use Rattle.instructions.specs.declared.instr.Instr.{Instr}
+use Rattle.instructions.specs.declared.forms.Second.{Second}
+use Rattle.instructions.specs.Forms.{limitsOf, sizeOf}
 use Rattle.words.specs.Layout.{restOf, wordsOf}
 
 -- what holds of 1 and of 2 holds of a size

@@ -5,9 +5,9 @@ use Prim.Native.Nat.{ℕ, _≤_, _+_, _-_, min}
 use native.Mathlib.Omega.{arith}
 use lib.ListN.{length, take, drop, take-append-drop, length-take, length-drop}
 use lib.Seq.{take-append-seam}
-use Rattle.words.specs.declared.instr.Instr.{Instr}
+use Rattle.instructions.specs.declared.instr.Instr.{Instr}
 use Rattle.words.specs.declared.reading.ReadAnswer.{ReadAnswer}
-use Rattle.words.specs.Forms.{limitsOf, size}
+use Rattle.instructions.specs.Forms.{limitsOf, size}
 use Rattle.words.specs.Layout.{wordsOf}
 use Rattle.words.specs.Rules.{Stands}
 use Rattle.words.specs.Reading.{readFrom, readAt}

@@ -11,10 +11,10 @@ use lib.Dec.{leb}
 use lib.ListN.{length, getD, take, drop}
 use borrow.Author.Tests.{le-leb, lt-leb}
 use Rattle.ground.proofs.Bools.{never}
-use Rattle.words.specs.declared.instr.Instr.{Instr}
+use Rattle.instructions.specs.declared.instr.Instr.{Instr}
 use Rattle.words.specs.declared.reading.ReadAnswer.{ReadAnswer}
 use Rattle.words.specs.declared.writing.WriteAnswer.{WriteAnswer}
-use Rattle.words.specs.Forms.{limitsOf, valid}
+use Rattle.instructions.specs.Forms.{limitsOf, valid}
 use Rattle.words.specs.Layout.{wordsOf}
 use Rattle.words.specs.Refusals.{Rule, numberOf}
 use Rattle.words.specs.Rules.{Stands, Breaks}

@@ -8,14 +8,14 @@ use lib.Dec.{eqb, ltb, leb}
 use borrow.Author.Needs.{needs}
 use borrow.Author.Tests.{eqb-true, ltb-true, leb-true}
 use Rattle.ground.proofs.Bools.{and-left, and-right}
-use Rattle.words.specs.declared.instr.Op.{Op}
-use Rattle.words.specs.declared.instr.Instr.{Instr}
-use Rattle.words.specs.declared.forms.Second.{Second}
-use Rattle.words.specs.declared.forms.Limits.{Limits}
-use Rattle.words.specs.Table.{opcodeOf, modifierOf}
-use Rattle.words.specs.Forms.{limitsOf, needMet, guardFits, secondFits, valid}
+use Rattle.instructions.specs.declared.instr.Op.{Op}
+use Rattle.instructions.specs.declared.instr.Instr.{Instr}
+use Rattle.instructions.specs.declared.forms.Second.{Second}
+use Rattle.instructions.specs.declared.forms.Limits.{Limits}
+use Rattle.instructions.specs.Table.{opcodeOf, modifierOf}
+use Rattle.instructions.specs.Forms.{limitsOf, needMet, guardFits, secondFits, valid}
 use Rattle.words.specs.Layout.{negateBit, firstWord, restOf}
-use Rattle.words.proofs.Rows.{table}
+use Rattle.instructions.proofs.Rows.{table}
 use Rattle.words.proofs.Digits.{negate-small}
 
 -- the limits of word 1 are within its fields

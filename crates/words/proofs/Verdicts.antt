@@ -10,21 +10,21 @@ use lib.ListN.{length, getD, drop}
 use borrow.Author.Tests.{leb-true, leb-false, ltb-true, ltb-false}
 use Rattle.ground.proofs.Bools.{never}
 use Rattle.ground.proofs.Tests.{false-of}
-use Rattle.words.specs.declared.instr.Op.{Op}
-use Rattle.words.specs.declared.instr.Instr.{Instr}
-use Rattle.words.specs.declared.table.FoundOp.{FoundOp}
-use Rattle.words.specs.declared.forms.Second.{Second}
+use Rattle.instructions.specs.declared.instr.Op.{Op}
+use Rattle.instructions.specs.declared.instr.Instr.{Instr}
+use Rattle.instructions.specs.declared.table.FoundOp.{FoundOp}
+use Rattle.instructions.specs.declared.forms.Second.{Second}
 use Rattle.words.specs.declared.reading.ReadAnswer.{ReadAnswer}
 use Rattle.words.specs.declared.writing.WriteAnswer.{WriteAnswer}
-use Rattle.words.specs.Table.{opOf}
-use Rattle.words.specs.Forms.{limitsOf, size, valid}
+use Rattle.instructions.specs.Table.{opOf}
+use Rattle.instructions.specs.Forms.{limitsOf, size, valid}
 use Rattle.words.specs.Layout.{instrIn, wordsOf, opcodeIn, modifierIn}
 use Rattle.words.specs.Refusals.{Rule}
 use Rattle.words.specs.Rules.{Names, Allowed, Breaks}
 use Rattle.words.specs.Reading.{refused, readAt}
 use Rattle.words.specs.Writing.{written, unwritten, writeOf}
-use Rattle.words.proofs.Lookup.{op-opcode, op-modifier}
-use Rattle.words.proofs.Rows.{table}
+use Rattle.instructions.proofs.Lookup.{op-opcode, op-modifier}
+use Rattle.instructions.proofs.Rows.{table}
 use Rattle.words.proofs.Sizes.{size-positive}
 use Rattle.words.proofs.ReadSteps.{past, missing, short, whole}
 use Rattle.words.proofs.FieldTests.{right, allowed, kept}

@@ -6,9 +6,9 @@ use Prim.Native.Nat.{ℕ, _≤_, _<_}
 use native.Mathlib.Omega.{arith}
 use lib.ListN.{length, getD, set}
 use borrow.Author.Tests.{le-leb, lt-leb}
-use Rattle.words.specs.declared.instr.Instr.{Instr}
+use Rattle.instructions.specs.declared.instr.Instr.{Instr}
 use Rattle.words.specs.declared.writing.WriteAnswer.{WriteAnswer}
-use Rattle.words.specs.Forms.{limitsOf, sizeOf, valid}
+use Rattle.instructions.specs.Forms.{limitsOf, sizeOf, valid}
 use Rattle.words.specs.Layout.{firstWord, restOf, wordsOf}
 use Rattle.words.specs.Refusals.{Rule}
 use Rattle.words.specs.Writing.{written, unwritten, put, writeOf}

@@ -3,12 +3,12 @@ use mathlib.Core.Bool.{Bool, true, cond, _&&_}
 use mathlib.Core.List.{List, [], _∷_}
 use Prim.Native.Nat.{ℕ, _+_, _*_, _/_, _%_, _-_, _^_}
 use lib.Dec.{eqb}
-use Rattle.words.specs.declared.instr.Op.{Op}
-use Rattle.words.specs.declared.instr.Guard.{Guard}
-use Rattle.words.specs.declared.instr.Instr.{Instr}
-use Rattle.words.specs.declared.forms.Second.{Second}
-use Rattle.words.specs.Table.{opcodeOf, modifierOf}
-use Rattle.words.specs.Forms.{limitsOf}
+use Rattle.instructions.specs.declared.instr.Op.{Op}
+use Rattle.instructions.specs.declared.instr.Guard.{Guard}
+use Rattle.instructions.specs.declared.instr.Instr.{Instr}
+use Rattle.instructions.specs.declared.forms.Second.{Second}
+use Rattle.instructions.specs.Table.{opcodeOf, modifierOf}
+use Rattle.instructions.specs.Forms.{limitsOf}
 
 -- bits hi to lo of a word
 abbrev pub bits : ℕ → ℕ → ℕ → ℕ

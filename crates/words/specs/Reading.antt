@@ -4,12 +4,12 @@ use mathlib.Core.List.{List, [], _∷_}
 use Prim.Native.Nat.{ℕ, suc}
 use lib.Dec.{ltb}
 use lib.ListN.{length, getD, drop}
-use Rattle.words.specs.declared.instr.Op.{Op}
-use Rattle.words.specs.declared.forms.Limits.{Limits}
-use Rattle.words.specs.declared.table.FoundOp.{FoundOp}
+use Rattle.instructions.specs.declared.instr.Op.{Op}
+use Rattle.instructions.specs.declared.forms.Limits.{Limits}
+use Rattle.instructions.specs.declared.table.FoundOp.{FoundOp}
 use Rattle.words.specs.declared.reading.ReadAnswer.{ReadAnswer}
-use Rattle.words.specs.Table.{opOf}
-use Rattle.words.specs.Forms.{limitsOf, sizeOf, size, fits}
+use Rattle.instructions.specs.Table.{opOf}
+use Rattle.instructions.specs.Forms.{limitsOf, sizeOf, size, fits}
 use Rattle.words.specs.Layout.{instrIn, spareZero, opcodeIn, modifierIn}
 use Rattle.words.specs.Refusals.{Rule, numberOf}
 

@@ -6,13 +6,13 @@ use mathlib.Core.List.{List}
 use mathlib.Core.Logic.{_⊎_}
 use Prim.Native.Nat.{ℕ, _≤_, _<_, _+_}
 use lib.ListN.{length, getD, take, drop}
-use Rattle.words.specs.declared.instr.Op.{Op}
-use Rattle.words.specs.declared.instr.Instr.{Instr}
-use Rattle.words.specs.declared.forms.Need.{Need}
-use Rattle.words.specs.declared.forms.Second.{Second}
-use Rattle.words.specs.declared.forms.Limits.{Limits}
-use Rattle.words.specs.Table.{opcodeOf, modifierOf}
-use Rattle.words.specs.Forms.{limitsOf, size, valid}
+use Rattle.instructions.specs.declared.instr.Op.{Op}
+use Rattle.instructions.specs.declared.instr.Instr.{Instr}
+use Rattle.instructions.specs.declared.forms.Need.{Need}
+use Rattle.instructions.specs.declared.forms.Second.{Second}
+use Rattle.instructions.specs.declared.forms.Limits.{Limits}
+use Rattle.instructions.specs.Table.{opcodeOf, modifierOf}
+use Rattle.instructions.specs.Forms.{limitsOf, size, valid}
 use Rattle.words.specs.Layout.{wordsOf, opcodeIn, modifierIn, rdIn, rs1In, bit3In, negateIn, predIn, rs2In, rs3In, rs4In, spareIn, scopeIn}
 use Rattle.words.specs.Refusals.{Rule}
 

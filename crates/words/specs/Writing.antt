@@ -4,9 +4,9 @@ use mathlib.Core.List.{List, _++_}
 use Prim.Native.Nat.{ℕ}
 use lib.Dec.{leb}
 use lib.ListN.{length, drop}
-use Rattle.words.specs.declared.instr.Instr.{Instr}
+use Rattle.instructions.specs.declared.instr.Instr.{Instr}
 use Rattle.words.specs.declared.writing.WriteAnswer.{WriteAnswer}
-use Rattle.words.specs.Forms.{valid}
+use Rattle.instructions.specs.Forms.{valid}
 use Rattle.words.specs.Layout.{wordsOf}
 use Rattle.words.specs.Refusals.{Rule, numberOf}
 

@@ -1,19 +1,19 @@
 // The instruction at a place of code that has passed the check: what its words say, with no test of them.
-use crate::forms::limits_of;
-use crate::instr::ControlOp;
-use crate::instr::Guard;
-use crate::instr::Instr;
-use crate::instr::Op;
 use crate::reading::instr_in;
 use crate::reading::word_at;
-use crate::table::FoundOp;
-use crate::table::memory_or_control_op;
-use crate::table::register_op;
+use instructions::forms::limits_of;
+use instructions::instr::ControlOp;
+use instructions::instr::Guard;
+use instructions::instr::Instr;
+use instructions::instr::Op;
+use instructions::table::FoundOp;
+use instructions::table::memory_or_control_op;
+use instructions::table::register_op;
 ghost use mathlib.Core.Path.{_≡_};
 ghost use Rattle.words.specs.Fetching.{nop, instrAt, controlIn};
-ghost use Rattle.words.specs.Forms.{size};
+ghost use Rattle.instructions.specs.Forms.{size};
 ghost use Rattle.words.specs.Layout.{opcodeIn, modifierIn};
-ghost use Rattle.words.specs.Table.{opOf};
+ghost use Rattle.instructions.specs.Table.{opOf};
 
 // A control operation, or any other.
 pub enum ControlIn {

@@ -3,16 +3,16 @@ ghost use mathlib.Core.Path.{_≡_};
 ghost use lib.ListN.{getD};
 ghost use Rattle.words.specs.Layout.{guardIn, headed, instrIn, secondSpare, spareZero};
 ghost use Rattle.words.specs.Reading.{readFields, readAt};
-use crate::forms::Limits;
-use crate::forms::Second;
-use crate::forms::fits;
-use crate::forms::limits_of;
-use crate::forms::size_of;
-use crate::instr::Guard;
-use crate::instr::Instr;
-use crate::instr::Op;
-use crate::table::FoundOp;
-use crate::table::op_of;
+use instructions::forms::Limits;
+use instructions::forms::Second;
+use instructions::forms::fits;
+use instructions::forms::limits_of;
+use instructions::forms::size_of;
+use instructions::instr::Guard;
+use instructions::instr::Instr;
+use instructions::instr::Op;
+use instructions::table::FoundOp;
+use instructions::table::op_of;
 
 // An instruction and how many words it has; or the number and the place of a refusal.
 pub enum ReadAnswer {

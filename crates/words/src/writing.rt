@@ -3,14 +3,14 @@ ghost use mathlib.Core.Path.{_≡_};
 ghost use lib.ListN.{getD};
 ghost use Rattle.words.specs.Layout.{negateBit, firstWord, restOf};
 ghost use Rattle.words.specs.Writing.{written, writeOf};
-use crate::forms::Second;
-use crate::forms::is_valid;
-use crate::forms::limits_of;
-use crate::forms::size_of;
-use crate::instr::Guard;
-use crate::instr::Instr;
-use crate::table::modifier_of;
-use crate::table::opcode_of;
+use instructions::forms::Second;
+use instructions::forms::is_valid;
+use instructions::forms::limits_of;
+use instructions::forms::size_of;
+use instructions::instr::Guard;
+use instructions::instr::Instr;
+use instructions::table::modifier_of;
+use instructions::table::opcode_of;
 
 // How many words were written; or the number and the place of a refusal.
 pub enum WriteAnswer {

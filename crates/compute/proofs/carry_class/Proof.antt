@@ -5,8 +5,8 @@ use mathlib.Core.Bool.{true}
 use Prim.Native.Nat.{ℕ, _≤_}
 use borrow.Author.Needs.{needs}
 use Rattle.lanes.specs.Sets.{widest}
-use Rattle.words.specs.declared.instr.Op.{Op}
-use Rattle.words.specs.Registers.{registersOf}
+use Rattle.instructions.specs.declared.instr.Op.{Op}
+use Rattle.instructions.specs.Registers.{registersOf}
 use Rattle.compute.specs.Registers.{Stands}
 use Rattle.compute.proofs.Standing.{narrow, stands-rd, stands-rs1, stands-rs2, stands-rs3}
 use Rattle.compute.proofs.Arms.{arm-two, arm-one, arm-special, arm-number, arm-load, arm-store, arm-atomic, arm-swap, arm-control}

@@ -6,8 +6,8 @@ use native.Mathlib.Omega.{arith}
 use lib.ListN.{length}
 use lib.Seq.{length-take-le}
 use borrow.Author.Tests.{not-true, not-false}
-use Rattle.words.specs.declared.instr.Instr.{Instr}
-use Rattle.words.specs.Forms.{valid}
+use Rattle.instructions.specs.declared.instr.Instr.{Instr}
+use Rattle.instructions.specs.Forms.{valid}
 use Rattle.naming.proofs.Whole.{line-room, line-front, put-text, not-valid}
 use borrow.Author.Needs.{needs}
 use Rattle.naming.proofs.write_text.Statement.{statement}

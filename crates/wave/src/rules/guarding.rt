@@ -1,8 +1,8 @@
 // The executing lanes of an instruction.
 use crate::state::Hot;
+use instructions::instr::Guard;
 use lanes::Lanes;
 use lanes::without;
-use words::instr::Guard;
 ghost use mathlib.Core.Path.{_≡_};
 ghost use Rattle.wave.specs.Wave.{predsOf};
 ghost use Rattle.wave.specs.Rules.{holding, executingOf};

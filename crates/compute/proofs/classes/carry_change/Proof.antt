@@ -5,7 +5,7 @@ use mathlib.Core.List.{List}
 use Prim.Native.Nat.{ℕ}
 use lib.ListN.{length}
 use borrow.Author.Needs.{needs}
-use Rattle.words.specs.declared.instr.Space.{Space}
+use Rattle.instructions.specs.declared.instr.Space.{Space}
 use Rattle.compute.specs.Registers.{byLane, gatherOf, writeLanes}
 use Rattle.compute.specs.Memory.{changesOf, oldOf}
 use Rattle.compute.specs.Lanewise.{changeTo}

@@ -1,7 +1,7 @@
 -- The steps of both fit, since a run makes no more than its budget.
 use mathlib.Core.Path.{ap}
 use native.Mathlib.Omega.{arith}
-use Rattle.replay.specs.Calls.{added}
+use Rattle.runs.specs.Calls.{added}
 use Rattle.replay_capture.proofs.Slices.{resumed-most}
 use borrow.Author.Needs.{needs}
 use Rattle.replay_capture.proofs.running.go_further.Statement.{statement}

@@ -1,6 +1,6 @@
 -- Each instruction is its own rule's function; only BARRIER has lanes of a fault.
 use mathlib.Core.Path.{refl}
-use Rattle.words.specs.declared.instr.ControlOp.the-variants.{If, Else, Endif, Loop, Break, Continue, Endloop, Halt, Nop}
+use Rattle.instructions.specs.declared.instr.ControlOp.the-variants.{If, Else, Endif, Loop, Break, Continue, Endloop, Halt, Nop}
 use Rattle.wave.specs.Control.{controlRule, faultLanes}
 use Rattle.wave.proofs.Ruling.{by-rule}
 use borrow.Author.Needs.{needs}

@@ -3,11 +3,11 @@ use mathlib.Core.Path.{_≡_, sym, ap, _∙_}
 use mathlib.Core.List.{List}
 use Prim.Native.Nat.{ℕ, _<_}
 use lib.ListN.{length, getD}
-use Rattle.words.specs.declared.instr.Op.{Op}
-use Rattle.words.specs.declared.table.FoundOp.{FoundOp}
-use Rattle.words.specs.declared.forms.Limits.{Limits}
-use Rattle.words.specs.Table.{opOf}
-use Rattle.words.specs.Forms.{limitsOf, sizeOf}
+use Rattle.instructions.specs.declared.instr.Op.{Op}
+use Rattle.instructions.specs.declared.table.FoundOp.{FoundOp}
+use Rattle.instructions.specs.declared.forms.Limits.{Limits}
+use Rattle.instructions.specs.Table.{opOf}
+use Rattle.instructions.specs.Forms.{limitsOf, sizeOf}
 use Rattle.words.specs.Layout.{opcodeIn, modifierIn}
 use Rattle.words.proofs.ReadSteps.{past, missing, short, whole}
 use borrow.Author.Needs.{needs}

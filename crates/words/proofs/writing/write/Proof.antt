@@ -6,9 +6,9 @@ use Prim.Native.Nat.{ℕ, _≤_}
 use native.Mathlib.Omega.{arith}
 use lib.ListN.{getD, length-set}
 use borrow.Author.Tests.{not-true, not-false}
-use Rattle.words.specs.declared.instr.Instr.{Instr}
-use Rattle.words.specs.declared.forms.Limits.{Limits}
-use Rattle.words.specs.Forms.{limitsOf, sizeOf, valid}
+use Rattle.instructions.specs.declared.instr.Instr.{Instr}
+use Rattle.instructions.specs.declared.forms.Limits.{Limits}
+use Rattle.instructions.specs.Forms.{limitsOf, sizeOf, valid}
 use Rattle.words.specs.Layout.{restOf}
 use Rattle.words.proofs.Sizes.{size-positive, size-one}
 use Rattle.words.proofs.WriteSteps.{not-valid, no-room, wrote-one, wrote-two}

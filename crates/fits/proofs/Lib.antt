@@ -1,0 +1,9 @@
+pub mod Testing
+pub mod Comparing
+pub mod AtLane
+pub mod Fitting
+pub mod Keeps
+pub mod Stays
+pub mod OpenBlocks
+pub mod Opens
+pub mod OneAnswer

@@ -1,0 +1,24 @@
+// Whether a handed-in state fits.
+use crate::places::open_there;
+use crate::sets::sets_fit;
+use lanes::WIDEST;
+use lanes::first;
+use wave::state::Hot;
+use wave::state::NESTING;
+use wave::state::PATH_NUMBERS;
+ghost use mathlib.Core.Path.{_≡_};
+ghost use Rattle.fits.specs.FitsTest.{fitsTest};
+
+mod places;
+mod sets;
+
+// Whether a state fits code that passed its check, with the lanes 0 to `n` - 1 launched: refusal 11 is where it does not.
+pub fn fits(code: &[u32], registers: u32, n: u32, h: Hot, bl: &[u32; PATH_NUMBERS]) -> bool
+    ensures { λ r. ⌜ r ≡ fitsTest (now (code .entry)) registers n h (now (bl .entry)) ⌝ }
+{
+    let wide = n <= WIDEST;
+    let deep = h.depth <= NESTING;
+    let placed = open_there(code, registers, h, bl);
+    let sets = sets_fit(h, first(n), bl);
+    wide & deep & placed & sets
+}

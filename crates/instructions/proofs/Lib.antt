@@ -1,0 +1,5 @@
+pub mod Lookup
+pub mod Parts
+pub mod Rows
+pub mod PastRegisters
+pub mod OneAnswer

@@ -1,0 +1,4 @@
+pub mod Table
+pub mod Named
+pub mod Forms
+pub mod Registers

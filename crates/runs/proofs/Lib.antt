@@ -1,0 +1,10 @@
+pub mod Allowing
+pub mod Adding
+pub mod Keeping
+pub mod Stopping
+pub mod Returns
+pub mod Refusing
+pub mod Breaking
+pub mod Running
+pub mod StepLanes
+pub mod LaneByLane

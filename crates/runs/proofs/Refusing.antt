@@ -1,0 +1,103 @@
+-- A call is refused exactly where its tests refuse, with their number and place: a run answers no refusal of its own, by induction along it.
+use mathlib.Core.Path.{_≡_, refl, sym, ap, _∙_}
+use mathlib.Core.Logic.{_↔_}
+use mathlib.Core.List.{List}
+use Prim.Native.Nat.{ℕ}
+use native.Mathlib.Omega.{arith}
+use lib.ListN.{replicate}
+use Rattle.blocks.specs.declared.structure.Checked.{Checked}
+use Rattle.lanes.specs.Sets.{first}
+use Rattle.wave.specs.declared.state.State.{State}
+use Rattle.blocks.specs.Code.{codeOf}
+use Rattle.blocks.specs.Scan.{checkOf}
+use Rattle.compute.specs.Memory.{Memories, memories}
+use Rattle.replay.specs.declared.settings.Settings.{Settings}
+use Rattle.replay.specs.declared.answers.Outcome.{Outcome}
+use Rattle.replay.specs.declared.answers.Outcome.the-variants.{Refused}
+use Rattle.replay.specs.Machine.{Machine}
+use Rattle.replay.specs.Run.{Ran, runOf}
+use Rattle.replay.specs.Replay.{
+  boundsTest,
+  launchTest,
+  resumeTest,
+  Answered,
+  refusal,
+  byTest,
+  runFrom,
+  launchMachine,
+  notLaunched,
+  launchOf,
+  stateMachine,
+  resumeOf,
+}
+use Rattle.replay.proofs.Runs.{run-induction}
+use Rattle.runs.proofs.Returns.{then-first, resumable, resumed}
+
+-- two cases of an enum are not equal
+other-outcome : _≡_ {A = ℕ} 0 1 → ⊥
+other-outcome e = omega arith
+
+-- an answer of no steps
+abbrev refusedWith : Outcome → State → List ℕ → Memories → Answered
+refusedWith o state regs y = record { outcome = o; steps = 0; state = state; regs = regs; memories = y }
+
+-- ---- a run answers no refusal
+module _ (number place : ℕ) where
+  abbrev Unrefused : Ran → Type 0
+  Unrefused r = r .outcome ≡ Refused number place → ⊥
+
+  pub run-unrefused : (s : Settings) (code : List ℕ) (b : ℕ) (m : Machine) → Unrefused (runOf s code b m)
+  run-unrefused s code =
+      run-induction s code (λ b m r. Unrefused r) (λ b m e z. other-outcome cc) (λ m e z. other-outcome cc) (λ b m e c z. other-outcome cc)
+      (λ b m r e c h. h)
+
+  by-test : (v : Checked) (f : Unit {0} → Answered) (state : State) (regs : List ℕ) (y : Memories)
+      → (f tt .outcome ≡ Refused number place → ⊥)
+      → (byTest v f state regs y .outcome ≡ Refused number place) ↔ (v ≡ Checked.Refused number place)
+  by-test Checked.Fine f state regs y never = (λ e. absurd (never e), λ e. absurd (other-outcome cc))
+  by-test (Checked.Refused k p) f state regs y never = (λ e. cc, λ e. cc)
+
+  -- a refusal answers zero steps and the state handed in, and leaves the buffers as lent
+  by-test-keeps : (v : Checked) (f : Unit {0} → Answered) (state : State) (regs : List ℕ) (y : Memories)
+      → (f tt .outcome ≡ Refused number place → ⊥)
+      → byTest v f state regs y .outcome ≡ Refused number place → byTest v f state regs y ≡ refusal number place state regs y
+  by-test-keeps Checked.Fine f state regs y never e = absurd (never e)
+  by-test-keeps (Checked.Refused k p) f state regs y never e = ap (λ (o : Outcome). refusedWith o state regs y) e
+
+  -- THEOREM: a call is refused exactly where its tests refuse, with that number and place
+  module _ (s : Settings) (code regs device local : List ℕ) where
+    pub launch-refused-if :
+        (launchOf s code regs device local .outcome ≡ Refused number place) ↔ (launchTest s code regs ≡ Checked.Refused number place)
+    unfolding launchOf
+    launch-refused-if =
+        by-test (launchTest s code regs) _ _ _ _ (run-unrefused s code (s .budget) (launchMachine s regs device local))
+
+    pub resume-refused-if : (state : State)
+        → (resumeOf s state code regs device local .outcome ≡ Refused number place)
+        ↔ (resumeTest s state code regs ≡ Checked.Refused number place)
+    unfolding resumeOf
+    resume-refused-if state =
+        by-test (resumeTest s state code regs) _ _ _ _ (run-unrefused s code (s .budget) (stateMachine state regs device local))
+
+  -- THEOREM: a call that is refused reports zero steps, returns the state handed in and changes nothing lent; a launch returns place 0, empty
+  -- sets and no block
+  module _ (s : Settings) (code regs device local : List ℕ) where
+    pub launch-refused-keeps : launchOf s code regs device local .outcome ≡ Refused number place
+        → launchOf s code regs device local ≡ refusal number place notLaunched regs (memories device local)
+    unfolding launchOf
+    launch-refused-keeps =
+        by-test-keeps (launchTest s code regs) _ _ _ _ (run-unrefused s code (s .budget) (launchMachine s regs device local))
+
+    pub resume-refused-keeps : (state : State) → resumeOf s state code regs device local .outcome ≡ Refused number place
+        → resumeOf s state code regs device local ≡ refusal number place state regs (memories device local)
+    unfolding resumeOf
+    resume-refused-keeps state =
+        by-test-keeps (resumeTest s state code regs) _ _ _ _ (run-unrefused s code (s .budget) (stateMachine state regs device local))
+
+-- what a refused launch returns, number by number
+pub not-launched : notLaunched ≡ record {
+  hot = record { place = 0; active = 0; halted = 0; p1 = 0; p2 = 0; p3 = 0; depth = 0 };
+  blocks = replicate 192 0;
+}
+unfolding first
+not-launched = refl
