@@ -4,8 +4,8 @@ ghost use mathlib.Core.Path.{_≡_};
 ghost use Prim.Native.Nat.{ℕ, _-_};
 ghost use lib.ListN.{getD};
 ghost use Rattle.compute.specs.Faulting.{ofKinds, noFaults, ofAddresses, ofDivisors, ofBarrier, clear, lanesOfKind};
-use lanes::Lanes;
 use instructions::instr::Space;
+use lanes::Lanes;
 
 // How many kinds there are: their numbers are 1 to this.
 pub const KINDS: usize = 5;

@@ -6,13 +6,13 @@ mod operands;
 mod pieces;
 
 use ending::put_ending;
+use instructions::forms::is_valid;
+use instructions::instr::Instr;
 use names::name_of;
 use numbers::put_bytes;
 use operands::fields_of;
 use operands::operands_of;
 use pieces::put_pieces;
-use instructions::forms::is_valid;
-use instructions::instr::Instr;
 ghost use mathlib.Core.Path.{_≡_};
 ghost use Rattle.naming.specs.Pieces.{Puts};
 ghost use Rattle.naming.specs.Text.{textOf};

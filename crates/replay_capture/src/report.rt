@@ -7,6 +7,7 @@ use compute::faults::Faults;
 use compute::faults::KINDS;
 use compute::faults::lanes_of_kind;
 use compute::faults::no_faults;
+use instructions::instr::Instr;
 use lanes::Lanes;
 use naming::TEXT_ROOM;
 use naming::TextAnswer;
@@ -23,7 +24,6 @@ use wave::state::OPENER;
 use wave::state::State;
 use wave::state::depth_of;
 use wave::state::whole;
-use instructions::instr::Instr;
 use words::reading::ReadAnswer;
 use words::reading::read_at;
 
