@@ -11,7 +11,8 @@ use Rattle.ground.proofs.Bools.{never}
 use Rattle.ground.proofs.Tests.{true-or-false}
 use Rattle.instructions.specs.declared.instr.ControlOp.{ControlOp}
 use Rattle.instructions.specs.declared.instr.Instr.{Instr}
-use Rattle.instructions.specs.declared.instr.Op.{Op}
+use Rattle.words.specs.declared.fetching.ControlIn.{ControlIn}
+use Rattle.words.specs.Fetching.{controlIn}
 use Rattle.words.specs.Layout.{wordsOf}
 use Rattle.words.specs.Refusals.{Rule, numberOf}
 use Rattle.instructions.specs.Registers.{registersBelow}
@@ -20,7 +21,7 @@ use Rattle.words.proofs.Verdicts.{Verdict, verdict}
 use Rattle.words.proofs.Theorems.{refuses}
 use Rattle.instructions.proofs.PastRegisters.{past-if}
 use Rattle.blocks.specs.declared.item.Item.{Item}
-use Rattle.blocks.specs.Item.{itemOf, itemAt}
+use Rattle.blocks.specs.Item.{itemBy, itemOf, itemAt}
 use Rattle.blocks.specs.Nesting.{Has, Alone, in-words, register-past}
 use Rattle.blocks.proofs.Items.{seen-whole, seen-past, seen-refused}
 
@@ -35,26 +36,18 @@ Carried Item.Jump = Unit {0}
 Carried Item.Endloop = Unit {0}
 Carried (Item.Bad n) = ⊥
 
-item-carried : (op : Op) (width : ℕ) → Carried (itemOf op width)
-item-carried (Op.Two o) w = tt
-item-carried (Op.Compare o) w = tt
-item-carried (Op.One o) w = tt
-item-carried Op.Special w = tt
-item-carried Op.Number w = tt
-item-carried (Op.Load s) w = tt
-item-carried (Op.Store s) w = tt
-item-carried (Op.Atomic o) w = tt
-item-carried Op.Cas w = tt
-item-carried (Op.Control ControlOp.If) w = tt
-item-carried (Op.Control ControlOp.Else) w = tt
-item-carried (Op.Control ControlOp.Endif) w = tt
-item-carried (Op.Control ControlOp.Loop) w = tt
-item-carried (Op.Control ControlOp.Break) w = tt
-item-carried (Op.Control ControlOp.Continue) w = tt
-item-carried (Op.Control ControlOp.Endloop) w = tt
-item-carried (Op.Control ControlOp.Halt) w = tt
-item-carried (Op.Control ControlOp.Barrier) w = tt
-item-carried (Op.Control ControlOp.Nop) w = tt
+item-carried : (c : ControlIn) (width : ℕ) → Carried (itemBy c width)
+item-carried ControlIn.Other w = tt
+item-carried (ControlIn.Control ControlOp.If) w = tt
+item-carried (ControlIn.Control ControlOp.Else) w = tt
+item-carried (ControlIn.Control ControlOp.Endif) w = tt
+item-carried (ControlIn.Control ControlOp.Loop) w = tt
+item-carried (ControlIn.Control ControlOp.Break) w = tt
+item-carried (ControlIn.Control ControlOp.Continue) w = tt
+item-carried (ControlIn.Control ControlOp.Endloop) w = tt
+item-carried (ControlIn.Control ControlOp.Halt) w = tt
+item-carried (ControlIn.Control ControlOp.Barrier) w = tt
+item-carried (ControlIn.Control ControlOp.Nop) w = tt
 
 module _ (words : List ℕ) (R at : ℕ) (here : at < length words) where
   alone : (n : ℕ) → Verdict words at → itemAt words R at ≡ Item.Bad n → Alone words R at n
@@ -62,7 +55,7 @@ module _ (words : List ℕ) (R at : ℕ) (here : at < length words) where
       let z : numberOf rule ≡ n = cc (seen-refused words R at e) in subst (Alone words R at) z (in-words rule b)
   alone n (Verdict.read x k e) f =
       ⊎-elim
-      (λ (t : registersBelow R x ≡ true). absurd (subst Carried (sym (seen-whole words R at e t) ∙ f) (item-carried (x .op) k)))
+      (λ (t : registersBelow R x ≡ true). absurd (subst Carried (sym (seen-whole words R at e t) ∙ f) (item-carried (controlIn (x .op)) k)))
       (λ (t : registersBelow R x ≡ false).
       let z : _≡_ {A = ℕ} 7 n = cc (seen-past words R at e t) in
       subst (Alone words R at) z (register-past x (stood words at x k e .0) (past-if R x .0 t)))

@@ -7,16 +7,17 @@ use mathlib.Core.List.{List}
 use lib.ListN.{length, take, drop, length-take, length-drop}
 use Rattle.instructions.specs.declared.instr.ControlOp.{ControlOp}
 use Rattle.instructions.specs.declared.instr.Instr.{Instr}
-use Rattle.instructions.specs.declared.instr.Op.{Op}
+use Rattle.words.specs.declared.fetching.ControlIn.{ControlIn}
 use Rattle.words.specs.declared.reading.ReadAnswer.{ReadAnswer}
 use Rattle.instructions.specs.Forms.{limitsOf, sizeOf}
+use Rattle.words.specs.Fetching.{controlIn}
 use Rattle.words.specs.Layout.{wordsOf}
 use Rattle.words.specs.Reading.{readAt}
 use Rattle.instructions.specs.Registers.{registersBelow}
 use Rattle.words.proofs.Sizes.{words-length, size-positive}
 use Rattle.words.proofs.Standing.{stood}
 use Rattle.blocks.specs.declared.item.Item.{Item}
-use Rattle.blocks.specs.Item.{itemOf, seen, itemAt}
+use Rattle.blocks.specs.Item.{itemBy, itemOf, seen, itemAt}
 use Rattle.blocks.specs.Code.{Code, codeOf}
 
 -- an item at a place of code of a size
@@ -44,26 +45,18 @@ read-wide words at i n e =
     (same, omega (arith, simp (length-take, length-drop) at there, s .1))
 
 -- what the blocks see of an instruction is in the code
-op-ok : (at size n : ℕ) (o : Op) → n ≡ sizeOf (limitsOf o .second) → at + n ≤ size → Ok at size (itemOf o n)
-op-ok at size n (Op.Two o) e h = omega arith
-op-ok at size n (Op.Compare o) e h = omega arith
-op-ok at size n (Op.One o) e h = omega arith
-op-ok at size n Op.Special e h = omega arith
-op-ok at size n Op.Number e h = omega arith
-op-ok at size n (Op.Load s) e h = omega arith
-op-ok at size n (Op.Store s) e h = omega arith
-op-ok at size n (Op.Atomic o) e h = omega arith
-op-ok at size n Op.Cas e h = omega arith
-op-ok at size n (Op.Control ControlOp.If) e h = tt
-op-ok at size n (Op.Control ControlOp.Else) e h = tt
-op-ok at size n (Op.Control ControlOp.Endif) e h = tt
-op-ok at size n (Op.Control ControlOp.Loop) e h = tt
-op-ok at size n (Op.Control ControlOp.Break) e h = tt
-op-ok at size n (Op.Control ControlOp.Continue) e h = tt
-op-ok at size n (Op.Control ControlOp.Endloop) e h = tt
-op-ok at size n (Op.Control ControlOp.Halt) e h = omega arith
-op-ok at size n (Op.Control ControlOp.Barrier) e h = omega arith
-op-ok at size n (Op.Control ControlOp.Nop) e h = omega arith
+item-ok : (at size n : ℕ) (c : ControlIn) → 1 ≤ n → at + n ≤ size → Ok at size (itemBy c n)
+item-ok at size n ControlIn.Other e h = (e, h)
+item-ok at size n (ControlIn.Control ControlOp.If) e h = tt
+item-ok at size n (ControlIn.Control ControlOp.Else) e h = tt
+item-ok at size n (ControlIn.Control ControlOp.Endif) e h = tt
+item-ok at size n (ControlIn.Control ControlOp.Loop) e h = tt
+item-ok at size n (ControlIn.Control ControlOp.Break) e h = tt
+item-ok at size n (ControlIn.Control ControlOp.Continue) e h = tt
+item-ok at size n (ControlIn.Control ControlOp.Endloop) e h = tt
+item-ok at size n (ControlIn.Control ControlOp.Halt) e h = omega arith
+item-ok at size n (ControlIn.Control ControlOp.Barrier) e h = omega arith
+item-ok at size n (ControlIn.Control ControlOp.Nop) e h = omega arith
 
 cond-ok : (at size : ℕ) (b : Bool) (x y : Item) → Ok at size x → Ok at size y → Ok at size (cond b x y)
 cond-ok at size true x y p q = p
@@ -72,7 +65,9 @@ cond-ok at size false x y p q = q
 seen-ok : (words : List ℕ) (registers at : ℕ) (a : ReadAnswer) → readAt words at ≡ a → Ok at (length words) (seen registers a)
 seen-ok words registers at (ReadAnswer.Read i n) e =
     let w = read-wide words at i n e in
-    cond-ok at (length words) (registersBelow registers i) (itemOf (i .op) n) (Item.Bad 7) (op-ok at (length words) n (i .op) (w .0) (w .1)) tt
+    let some = size-positive (limitsOf (i .op) .second) in
+    cond-ok at (length words) (registersBelow registers i) (itemOf (i .op) n) (Item.Bad 7)
+    (item-ok at (length words) n (controlIn (i .op)) (omega (arith, w .0, some)) (w .1)) tt
 seen-ok words registers at (ReadAnswer.Refused n p) e = tt
 
 pub code-fits : (words : List ℕ) (registers : ℕ) → Fits (codeOf words registers)

@@ -4,7 +4,9 @@ use mathlib.Core.Bool.{cond}
 use mathlib.Core.List.{List}
 use Rattle.instructions.specs.declared.instr.ControlOp.{ControlOp}
 use Rattle.instructions.specs.declared.instr.Op.{Op}
+use Rattle.words.specs.declared.fetching.ControlIn.{ControlIn}
 use Rattle.words.specs.declared.reading.ReadAnswer.{ReadAnswer}
+use Rattle.words.specs.Fetching.{controlIn}
 use Rattle.words.specs.Reading.{readAt}
 use Rattle.instructions.specs.Registers.{registersBelow}
 use Rattle.blocks.specs.declared.item.Item.{Item}
@@ -22,18 +24,13 @@ controlItem ControlOp.Halt = Item.Plain 1
 controlItem ControlOp.Barrier = Item.Plain 1
 controlItem ControlOp.Nop = Item.Plain 1
 
--- an instruction of an operation and a width
+-- an instruction of a width, by the control operation that it is, if it is one
+abbrev pub itemBy : ControlIn → ℕ → Item
+itemBy (ControlIn.Control o) width = controlItem o
+itemBy ControlIn.Other width = Item.Plain width
+
 abbrev pub itemOf : Op → ℕ → Item
-itemOf (Op.Two o) width = Item.Plain width
-itemOf (Op.Compare o) width = Item.Plain width
-itemOf (Op.One o) width = Item.Plain width
-itemOf Op.Special width = Item.Plain width
-itemOf Op.Number width = Item.Plain width
-itemOf (Op.Load s) width = Item.Plain width
-itemOf (Op.Store s) width = Item.Plain width
-itemOf (Op.Atomic o) width = Item.Plain width
-itemOf Op.Cas width = Item.Plain width
-itemOf (Op.Control o) width = controlItem o
+itemOf op width = itemBy (controlIn op) width
 
 -- what was read, for a number of registers: refusals 4 to 6 as they are, then 7
 abbrev pub seen : ℕ → ReadAnswer → Item

@@ -1,6 +1,8 @@
 // What the blocks see of an instruction. No other part of this crate looks at a word.
 use instructions::instr::ControlOp;
 use instructions::instr::Op;
+use words::fetching::ControlIn;
+use words::fetching::control_in;
 use words::reading::ReadAnswer;
 ghost use mathlib.Core.Path.{_≡_};
 ghost use Rattle.blocks.specs.Item.{controlItem, itemOf, itemAt};
@@ -42,17 +44,10 @@ fn control_item(op: ControlOp) -> Item
 fn item_of(op: Op, width: usize) -> Item
     ensures { λ r. ⌜ r ≡ itemOf op width ⌝ }
 {
-    match op {
-        Op::Two(_) => Item::Plain(width),
-        Op::Compare(_) => Item::Plain(width),
-        Op::One(_) => Item::Plain(width),
-        Op::Special => Item::Plain(width),
-        Op::Number => Item::Plain(width),
-        Op::Load(_) => Item::Plain(width),
-        Op::Store(_) => Item::Plain(width),
-        Op::Atomic(_) => Item::Plain(width),
-        Op::Cas => Item::Plain(width),
-        Op::Control(control) => control_item(control),
+    let control = control_in(op);
+    match control {
+        ControlIn::Control(o) => control_item(o),
+        ControlIn::Other => Item::Plain(width),
     }
 }
 

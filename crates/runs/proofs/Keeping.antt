@@ -11,22 +11,20 @@ use lib.ListN.{length}
 use Rattle.ground.proofs.Bools.{never}
 use Rattle.lanes.specs.Sets.{bit, first, without}
 use Rattle.lanes.proofs.Members.{joined-le}
-use Rattle.instructions.specs.declared.instr.Op.{Op}
+use Rattle.words.specs.declared.fetching.ControlIn.{ControlIn}
 use Rattle.instructions.specs.declared.instr.Instr.{Instr}
 use Rattle.instructions.specs.Forms.{limitsOf, size}
-use Rattle.words.specs.Fetching.{instrAt}
+use Rattle.words.specs.Fetching.{instrAt, controlIn}
 use Rattle.words.proofs.Sizes.{size-most}
 use Rattle.words.proofs.Fetches.{fetched}
-use Rattle.blocks.specs.declared.item.Item.{Item}
 use Rattle.blocks.specs.declared.structure.Checked.the-variants.{Fine}
-use Rattle.blocks.specs.Item.{itemOf, itemAt}
+use Rattle.blocks.specs.Item.{itemBy, itemOf, itemAt}
 use Rattle.blocks.specs.Code.{codeOf}
 use Rattle.blocks.specs.Scan.{checkOf}
 use Rattle.blocks.specs.OpenAt.{Found, nowhere, there, openAt}
 use Rattle.blocks.proofs.Instructions.{Instruction, instruction-there}
 use Rattle.wave.specs.declared.state.Block.{Block}
 use Rattle.wave.specs.Wave.{Wave, Preds}
-use Rattle.wave.specs.Rules.{onwardBy}
 use Rattle.wave.specs.Control.{controlRule}
 use Rattle.fits.specs.Fits.{OpenThere, WaveFits}
 use Rattle.fits.proofs.AtLane.{PredsFit, fits-lanes, lanes-fit}
@@ -37,7 +35,7 @@ use Rattle.compute.specs.Faulting.{clear}
 use Rattle.compute.proofs.Carrying.{other-bits, length-regs}
 use Rattle.replay.specs.declared.settings.Settings.{Settings}
 use Rattle.replay.specs.Machine.{Machine, named, withNamed}
-use Rattle.replay.specs.Step.{shapeOf, launchedOf, lanesOf, computed, waveAfter, faultsIn, carriedBy, stepOf}
+use Rattle.replay.specs.Step.{shapeOf, launchedOf, lanesOf, computed, waveBy, faultsIn, carriedBy, stepOf}
 use Rattle.replay.specs.Run.{endedOf, stepAt, runOf}
 use Rattle.replay.specs.Replay.{mostWords}
 use Rattle.replay.proofs.Naming.{lent-to, named-fits, with-named-fits}
@@ -78,21 +76,11 @@ module _ (code : List ℕ) (registers : ℕ) (checked : checkOf (codeOf code reg
 
   module _ (n all t : ℕ) (w : Wave) (ps qs : Preds) (h : w .place < length code) (lanes : (i : ℕ) → bit t i ≤ bit (w .active) i)
       (q : PredsFit (first n) qs) (f : WaveFits code registers n w ps) where
-    plain-keeps : (op : Op) → itemAt code registers (w .place) ≡ Item.Plain (size op) → WaveFits code registers n (onwardBy (size op) w) qs
-    plain-keeps op i = onward-keeps code registers checked fewer w h n (size op) ps qs i (omega (arith, size-most (limitsOf op .second))) q f
-
-    wave-keeps : (op : Op) → itemAt code registers (w .place) ≡ itemOf op (size op) → WaveFits code registers n (waveAfter op all t w) qs
-    wave-keeps (Op.Control o) i =
+    wave-keeps : (c : ControlIn) (words : ℕ) → words ≤ 2 → itemAt code registers (w .place) ≡ itemBy c words
+        → WaveFits code registers n (waveBy c words all t w) qs
+    wave-keeps (ControlIn.Control o) words m i =
         other-preds code registers n (controlRule o all t w) ps qs q (control-keeps code registers checked fewer w h o n all t ps i lanes f)
-    wave-keeps (Op.Two o) i = plain-keeps (Op.Two o) i
-    wave-keeps (Op.Compare o) i = plain-keeps (Op.Compare o) i
-    wave-keeps (Op.One o) i = plain-keeps (Op.One o) i
-    wave-keeps Op.Special i = plain-keeps Op.Special i
-    wave-keeps Op.Number i = plain-keeps Op.Number i
-    wave-keeps (Op.Load s) i = plain-keeps (Op.Load s) i
-    wave-keeps (Op.Store s) i = plain-keeps (Op.Store s) i
-    wave-keeps (Op.Atomic o) i = plain-keeps (Op.Atomic o) i
-    wave-keeps Op.Cas i = plain-keeps Op.Cas i
+    wave-keeps ControlIn.Other words m i = onward-keeps code registers checked fewer w h n words ps qs i (omega arith) q f
 
   module _ (s : Settings) (n : ℕ) where
     -- the wave and its predicates fit
@@ -121,7 +109,7 @@ module _ (code : List ℕ) (registers : ℕ) (checked : checkOf (codeOf code reg
         let x : Instr = instrAt code (m .wave .place) in
         wave-keeps n (launchedOf s) (lanesOf x m) (m .wave) (m .preds)
         (withNamed (x .rd) (computed s x (lanesOf x m) m .after .predicate) (m .preds)) h (executing-within (x .guard) (m .wave .active) (m .preds))
-        (preds-keep x m f) f (x .op) (item-there (m .wave .place) (m .wave .path) h (f .blocks))
+        (preds-keep x m f) f (controlIn (x .op)) (size (x .op)) (size-most (limitsOf (x .op) .second)) (item-there (m .wave .place) (m .wave .path) h (f .blocks))
 
     chosen : (c : Bool) (v m : Machine) → MachineFits v → MachineFits m → MachineFits (cond c v m)
     chosen true v m f g = f
