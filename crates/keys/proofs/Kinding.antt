@@ -15,7 +15,7 @@ use Rattle.numbers.proofs.Placing.{placed-nil}
 use Rattle.numbers.proofs.Behind.{behind, one-number, behind-one}
 use Rattle.key.specs.Body.{twoOf}
 use Rattle.compute.specs.declared.faults.Faults.{Faults}
-use Rattle.compute.specs.Faulting.{Fault, fault, kinds, every, withLanes, listed, lanesOfKind}
+use Rattle.compute.specs.Faulting.{Fault, fault, kinds, withLanes, listed, lanesOfKind}
 use Rattle.compute.proofs.EveryKind.{upFrom, table, every-table, few-listed}
 use Rattle.keys.specs.Key.{faultOf, kindsOf}
 use Rattle.keys.specs.Putting.{kindsPlace, After, after, afterNumbers, noted, kindNumbers}
