@@ -23,7 +23,7 @@ STRICT = {'DEMANDS.md', 'PROMISES.md', 'ARCHITECTURE.md', 'DECISIONS.md', 'CONTR
 OTHERS = {
     'requires', 'ensures', 'specs/', 'src/', 'proofs/', 'must-fail/', 'target/', 'rt', 'cargo', 'python3', 'stdin', 'stdout', 'omega', 'simp',
     'rw', 'cc', 'bitOr', 'bitAnd', 'min', 'crate', 'File.name',
-    'slices', 'pN',
+    'slices', 'pN', 'libc', 'os',
 }
 FILE_NAME = re.compile(r"[A-Z]\w*\.[\w′-]+")
 PATH = re.compile(r'[\w.*-]+(/[\w.*-]+)*/?')
