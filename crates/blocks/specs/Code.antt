@@ -1,3 +1,4 @@
+-- A step of the proofs: nothing that is said to the reader rests on this file.
 -- Code as the rules of blocks see it.
 use Prim.Native.Nat.{ℕ}
 use mathlib.Core.List.{List}

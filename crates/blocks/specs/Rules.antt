@@ -1,3 +1,4 @@
+-- A step of the proofs: nothing that is said to the reader rests on this file.
 -- The rule of one instruction, by what `judge` is told of the open blocks: the room left, what the innermost is, and whether a loop is among them.
 use Prim.Native.Nat.{ℕ}
 use mathlib.Core.Bool.{Bool, true, cond}

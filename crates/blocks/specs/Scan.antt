@@ -1,3 +1,4 @@
+-- A step of the proofs, but for `nesting`, `Part`, `Open` and `in-loop`, which `Nesting` uses.
 -- The check of the code, in one pass with the list of open blocks, innermost first.
 -- Instruction by instruction it meets refusals 4 to 7 of the instruction itself, then 8 and 9, and at the end of the code 10.
 use Prim.Native.Nat.{ℕ, zero, suc, _+_}

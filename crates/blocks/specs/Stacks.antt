@@ -1,3 +1,4 @@
+-- A step of the proofs: nothing that is said to the reader rests on this file.
 -- What the steps over a stack of open blocks promise, for every list of blocks that the stack holds.
 use Prim.Native.Nat.{ℕ, _≤_}
 use mathlib.Core.Path.{_≡_}

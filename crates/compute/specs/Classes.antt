@@ -1,3 +1,4 @@
+-- A step of the proofs: nothing that is said to the reader rests on this file.
 -- What carrying out one class of instructions does, as the code's parts promise it.
 use mathlib.Core.Path.{_≡_}
 use mathlib.Core.Bool.{cond}

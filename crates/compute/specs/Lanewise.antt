@@ -1,3 +1,4 @@
+-- A step of the proofs: nothing that is said to the reader rests on this file.
 -- What the loops over the lanes give, of registers of the buffer: the results of one class of operations each.
 use Prim.Native.Nat.{ℕ}
 use mathlib.Core.Bool.{cond}

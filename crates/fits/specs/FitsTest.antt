@@ -1,3 +1,4 @@
+-- A step of the proofs: nothing that is said to the reader rests on this file.
 -- The test of whether a handed-in state fits. That of its sets is on whole sets: a walk outward over the open blocks, with the lanes that
 -- are active or set aside inside.
 use mathlib.Core.Bool.{Bool, true, false, _&&_, _||_}

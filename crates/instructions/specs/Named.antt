@@ -1,3 +1,4 @@
+-- A step of the proofs: nothing that is said to the reader rests on this file.
 -- What a search of the code by one number promises: the operation of a list that has the number, or that none has it. `Named` says it arm by
 -- arm, in the order of the list; it is `numbered` said again (proofs/Lookup.antt).
 use mathlib.Core.Path.{_≡_}

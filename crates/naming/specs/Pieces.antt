@@ -1,3 +1,4 @@
+-- A step of the proofs: nothing that is said to the reader rests on this file.
 -- A text in pieces of at most eight bytes, each packed into a number, its first byte lowest. The code puts a line piece by piece, so that
 -- what a piece is gets decided on numbers.
 use Prim.Native.Nat.{ℕ, zero, suc, _+_, _*_, _/_, _%_}

@@ -1,3 +1,4 @@
+-- A step of the proofs: nothing that is said to the reader rests on this file.
 -- The outward search: the innermost open loop by its number among the open blocks, counted from the outermost; and lanes that join one of
 -- its six numbers.
 use mathlib.Core.Path.{_≡_}
