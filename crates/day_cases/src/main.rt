@@ -5,9 +5,9 @@
 //   3 I      record I of a day file
 //   4 -      the listing of a day file
 // tests/day_files.py makes the cases, and answers them from the page.
+use body::BodyAnswer;
 use dayfile::answer::MakeAnswer;
 use dayfile::answer::ReadAnswer;
-use key::BodyAnswer;
 use libc::STDIN_FILENO;
 use libc::STDOUT_FILENO;
 use numbers::get;
@@ -35,7 +35,7 @@ fn put_refusal(number: u32, place: usize) {
 }
 
 fn answer_body(bytes: &[u8], at: usize) {
-    match key::body_length(bytes, at) {
+    match body::body_length(bytes, at) {
         BodyAnswer::Length(n) => {
             put_word(b"length");
             put_number(n);

@@ -14,8 +14,8 @@ use Rattle.ground.specs.Tests.{allOf}
 use Rattle.ground.proofs.Tests.{true-or-false}
 use Rattle.numbers.specs.Placed.{placed}
 use Rattle.numbers.proofs.Placing.{placed-front}
-use Rattle.key.specs.Layout.{isBody, short}
-use Rattle.key.proofs.Starts.{of-starts, starts-long, starts-append, body-starts}
+use Rattle.body.specs.Layout.{isBody, short}
+use Rattle.body.proofs.Starts.{of-starts, starts-long, starts-append, body-starts}
 use Rattle.dayfile.specs.declared.making.Survey.{Survey}
 use Rattle.dayfile.specs.declared.making.Survey.the-variants.{Many}
 use Rattle.dayfile.specs.declared.answer.MakeAnswer.the-variants.{Made, Refused}

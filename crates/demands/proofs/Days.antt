@@ -9,7 +9,7 @@ use native.Mathlib.Omega.{arith}
 use lib.ListN.{length}
 use Rattle.ground.specs.Tests.{allOf}
 use Rattle.ground.proofs.Bools.{and-both}
-use Rattle.key.specs.Layout.{isBody}
+use Rattle.body.specs.Layout.{isBody}
 use Rattle.dayfile.specs.Day.{fileOf}
 use Rattle.dayfile.specs.Make.{Makes, fileIn}
 use Rattle.dayfile.proofs.MadeFiles.{file-is, one-list-made}

@@ -14,9 +14,9 @@ use Rattle.ground.specs.Tests.{allOf}
 use Rattle.numbers.specs.Numbers.{numberAt}
 use Rattle.numbers.specs.Placed.{placed}
 use Rattle.numbers.proofs.Placing.{placed-append, placed-nil, placed-front, length-placed}
-use Rattle.key.specs.Body.{Fault}
-use Rattle.key.specs.Layout.{isBody, partsAt, each, faultAt, countAt, depthAt}
-use Rattle.key.proofs.Starts.{body-starts, fits-count, count-eq, depth-eq}
+use Rattle.body.specs.Body.{Fault}
+use Rattle.body.specs.Layout.{isBody, partsAt, each, faultAt, countAt, depthAt}
+use Rattle.body.proofs.Starts.{body-starts, fits-count, count-eq, depth-eq}
 use Rattle.dayfile.specs.Day.{mostRecords}
 use Rattle.ground.proofs.Tests.{true-or-false, all-at}
 use Rattle.dayfile.specs.Read.{countOf, bodiesOf, refusalOf, placeOf, lengthOf, firstsOf, counted, firstsIn}

@@ -36,9 +36,9 @@ use Rattle.runs.proofs.Adding.{following, runs-add}
 use Rattle.runs.proofs.Returns.{Launchable, passes, launched as launch-run}
 use Rattle.numbers.specs.Numbers.{bytesOf, bytesOfAll}
 use Rattle.numbers.proofs.Placing.{placed-front}
-use Rattle.key.specs.Body.{Fault, Block, Parts, twoOf, sixOf, numbersOf, bytesOfBody}
-use Rattle.key.specs.Layout.{kindLists, apart, faultsFit, blockFits, fitsLayout}
-use Rattle.keys.specs.Key.{kindsOf, blocksOf, partsOf, bodyKey, outcomeKey, keyOf}
+use Rattle.body.specs.Body.{Fault, Block, Parts, twoOf, sixOf, numbersOf, bytesOfBody}
+use Rattle.body.specs.Layout.{kindLists, apart, faultsFit, blockFits, fitsLayout}
+use Rattle.key.specs.Key.{kindsOf, blocksOf, partsOf, bodyKey, outcomeKey, keyOf}
 use Rattle.marked.specs.Table.{Answer, ended, faulted, least, Open, settings, written, launched, launching, Gives, Each, all, _&_, t12, t13, t14, table}
 
 -- ---- a launch with budget enough

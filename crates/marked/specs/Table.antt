@@ -17,10 +17,10 @@ use Rattle.replay.specs.declared.settings.Settings.{Settings}
 use Rattle.replay.specs.declared.answers.Outcome.{Outcome}
 use Rattle.replay.specs.Replay.{Answered, mostSteps, launchOf}
 use Rattle.numbers.specs.Numbers.{bytesOfAll}
-use Rattle.key.specs.Layout.{longest}
-use Rattle.keys.specs.declared.answer.KeyAnswer.{KeyAnswer}
-use Rattle.keys.specs.declared.answer.KeyAnswer.the-variants.{Wrote, Refused}
-use Rattle.keys.specs.Key.{Keying, keyOf}
+use Rattle.body.specs.Layout.{longest}
+use Rattle.key.specs.declared.answer.KeyAnswer.{KeyAnswer}
+use Rattle.key.specs.declared.answer.KeyAnswer.the-variants.{Wrote, Refused}
+use Rattle.key.specs.Key.{Keying, keyOf}
 
 -- words to be read; an operation on two numbers; an address of a base and an offset; a launch of so many lanes of a width, with so many
 -- registers

@@ -2,10 +2,10 @@
 use crate::answers::Outcome;
 use crate::answers::Replayed;
 use crate::filling::fill_with;
+use crate::refusing::test_launch;
+use crate::refusing::test_resume;
 use crate::run::go;
 use crate::settings::Settings;
-use crate::tests::test_launch;
-use crate::tests::test_resume;
 use blocks::structure::Checked;
 use wave::launch::launched;
 use wave::launch::not_launched;

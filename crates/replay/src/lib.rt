@@ -2,7 +2,7 @@
 pub mod answers;
 pub mod doors;
 mod filling;
+mod refusing;
 pub mod run;
 pub mod settings;
 pub mod step;
-mod tests;

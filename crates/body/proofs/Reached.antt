@@ -1,0 +1,42 @@
+-- A body has 32 to 808 bytes, and both lengths are reached: by one kind with no open block, and by two kinds in 32 open loops.
+use mathlib.Core.Path.{_≡_, refl}
+use Prim.Native.Nat.{ℕ, _≤_}
+use mathlib.Core.List.{List, [], _∷_, flatMap}
+use mathlib.Core.Bool.{true}
+use native.Mathlib.Omega.{arith}
+use lib.ListN.{length, replicate}
+use Rattle.ground.specs.Tests.{sameList, oneOf, allOf}
+use Rattle.numbers.specs.Numbers.{bytesOf, bytesOfAll, numberAt}
+use Rattle.body.specs.Body.{Parts, twoOf, sixOf, numbersOf, bytesOfBody}
+use Rattle.body.specs.Layout.{shortest, longest, kindLists, apart, faultsFit, blockFits, fitsLayout, startsBody, isBody}
+use Rattle.body.specs.Layout.{each, faultAt, blockAt, countAt, headSize, depthAt, sizeAt, partsAt}
+use Rattle.body.proofs.Starts.{body-starts, starts-long}
+
+pub body-long : (b : List ℕ) → isBody b ≡ true → (shortest ≤ length b) × (length b ≤ longest)
+body-long b e = let s = body-starts b e in let l = starts-long b (s .0) in let n = s .1 in (omega arith, omega arith)
+
+-- one kind, no block
+abbrev unblocked : Parts
+unblocked = record { kernel = 7; place = 1; faults = record { kind = 4; lanes = 1 } ∷ []; active = 3; halted = 0; blocks = [] }
+
+-- two kinds, 32 loops in each other
+abbrev loops : Parts
+loops =
+    record {
+      kernel = 7;
+      place = 65535;
+      faults = record { kind = 1; lanes = 1 } ∷ record { kind = 3; lanes = 2 } ∷ [];
+      active = 3;
+      halted = 0;
+      blocks = replicate 32 (record { part = 3; opener = 1; entered = 3; aside = 0; again = 0; left = 0 });
+    }
+
+pub shortest-reached : (isBody (bytesOfBody unblocked) ≡ true) × (length (bytesOfBody unblocked) ≡ shortest)
+unfolding isBody startsBody fitsLayout partsAt each faultAt blockAt faultsFit oneOf sameList kindLists apart allOf blockFits
+    sizeAt headSize depthAt countAt numberAt bytesOfBody numbersOf twoOf sixOf bytesOfAll flatMap bytesOf
+shortest-reached = (refl, refl)
+
+pub longest-reached : (isBody (bytesOfBody loops) ≡ true) × (length (bytesOfBody loops) ≡ longest)
+unfolding isBody startsBody fitsLayout partsAt each faultAt blockAt faultsFit oneOf sameList kindLists apart allOf blockFits
+    sizeAt headSize depthAt countAt numberAt bytesOfBody numbersOf twoOf sixOf bytesOfAll flatMap bytesOf
+longest-reached = (refl, refl)

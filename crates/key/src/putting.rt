@@ -1,0 +1,116 @@
+// Putting a body's numbers into a buffer, one behind another.
+use compute::faults::Faults;
+use compute::faults::KINDS;
+use compute::faults::lanes_of_kind;
+use lanes::Lanes;
+use numbers::put;
+use wave::state::BLOCK_NUMBERS;
+use wave::state::State;
+use wave::state::whole;
+ghost use mathlib.Core.Path.{_≡_};
+ghost use Prim.Native.Nat.{_+_, _*_, _≤_};
+ghost use lib.Dec.{eqb};
+ghost use lib.ListN.{length};
+ghost use mathlib.Core.Bool.{cond};
+ghost use Rattle.numbers.specs.Placed.{placed};
+ghost use Rattle.numbers.specs.Numbers.{Small, bytesOfAll};
+ghost use Rattle.body.specs.Layout.{mostDepth};
+ghost use Rattle.key.specs.Key.{kindsOf, partsOf};
+ghost use Rattle.key.specs.Putting.{room, kindsPlace, kindsEnd, after, afterNumbers, noted, kindNumbers, headNumbers, stateNumbers, Put};
+
+// Where the fault kinds stand, behind kernel number, place and count.
+const KINDS_PLACE: usize = 12;
+
+// How many kinds these lanes make: one, or none where there are no lanes.
+fn kinds_of(lanes: Lanes) -> u32
+    ensures { λ r. ⌜ (r ≡ cond (eqb lanes 0) 0 1) × (r ≤ 1) ⌝ }
+{
+    if lanes == 0 { 0 } else { 1 }
+}
+
+// The count of fault kinds.
+fn count_of(f: Faults) -> u32
+    ensures { λ r. ⌜ r ≡ length (kindsOf f) ⌝ }
+{
+    let mut count: u32 = 0;
+    let mut kind: usize = 1;
+    while kind <= KINDS {
+        count += kinds_of(lanes_of_kind(kind, f));
+        kind += 1;
+    }
+    count
+}
+
+// Puts a kind and its lanes, where there are any, into `out` from `at` on, and answers the place behind them.
+fn put_kind(kind: u32, lanes: Lanes, at: usize, out: &mut [u8]) -> usize
+    requires { ⌜ at ≤ room ⌝ }
+    ensures { λ r. ⌜ (after r (now (out .exit)) ≡ afterNumbers (noted kind lanes) at (now (out .entry))) × Small (noted kind lanes) ⌝ }
+{
+    if lanes == 0 {
+        return at;
+    }
+    put(out, at, kind);
+    put(out, at + 4, lanes);
+    at + 8
+}
+
+// Puts each kind that has lanes, in rising order, into `out` behind their count, and answers the place behind the last.
+fn put_kinds(f: Faults, out: &mut [u8]) -> usize
+    ensures { λ r. ⌜ (after r (now (out .exit)) ≡ afterNumbers (kindNumbers f) kindsPlace (now (out .entry))) × Small (kindNumbers f) ⌝ }
+{
+    let mut at = KINDS_PLACE;
+    let mut kind: usize = 1;
+    while kind <= KINDS {
+        at = put_kind(kind as u32, lanes_of_kind(kind, f), at, out);
+        kind += 1;
+    }
+    at
+}
+
+// Puts numbers into `out` from `at` on.
+fn put_numbers(numbers: &[u32], at: usize, out: &mut [u8])
+    requires { ⌜ at + 4 * length (now numbers) ≤ room ⌝ }
+    ensures { λ _. ⌜ (now (out .exit) ≡ placed (now (out .entry)) at (bytesOfAll (now (numbers .entry)))) × Small (now (numbers .entry)) ⌝ }
+{
+    let mut k: usize = 0;
+    let mut q = at;
+    while k < numbers.len() {
+        put(out, q, numbers[k]);
+        q += 4;
+        k += 1;
+    }
+}
+
+// Puts kernel number, place and fault kinds, with their count, at the front of `out`, and answers the place behind them.
+fn put_head(kernel: u32, place: u32, f: Faults, out: &mut [u8]) -> usize
+    ensures { λ r. ⌜ (after r (now (out .exit)) ≡ afterNumbers (headNumbers kernel place f) 0 (now (out .entry))) × Small (headNumbers kernel place f) ⌝ }
+{
+    put(out, 0, kernel);
+    put(out, 4, place);
+    put(out, 8, count_of(f));
+    put_kinds(f, out)
+}
+
+// Puts the active and the halted lanes, the depth and the open blocks of a state into `out` from `at` on.
+fn put_state(state: State, at: usize, out: &mut [u8])
+    requires { ⌜ (state .hot .depth ≤ mostDepth) × (at ≤ kindsEnd) ⌝ }
+    ensures { λ _. ⌜ (now (out .exit) ≡ placed (now (out .entry)) at (bytesOfAll (stateNumbers state))) × Small (stateNumbers state) ⌝ }
+{
+    let hot = state.hot;
+    let blocks = state.blocks;
+    whole(&blocks);
+    put(out, at, hot.active);
+    put(out, at + 4, hot.halted);
+    put(out, at + 8, hot.depth);
+    let open = BLOCK_NUMBERS * (hot.depth as usize);
+    put_numbers(&blocks[..open], at + 12, out);
+}
+
+// Puts the body of a fault at the front of `out`, as far as it fits.
+pub(crate) fn put_body(kernel: u32, f: Faults, state: State, out: &mut [u8])
+    requires { ⌜ state .hot .depth ≤ mostDepth ⌝ }
+    ensures { λ _. ⌜ Put (partsOf kernel f state) (now (out .entry)) (now (out .exit)) ⌝ }
+{
+    let at = put_head(kernel, state.hot.place, f, out);
+    put_state(state, at, out);
+}

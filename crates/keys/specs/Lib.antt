@@ -1,3 +1,0 @@
-pub mod Key
-pub mod Putting
-pub mod Refusals
