@@ -30,7 +30,7 @@ use Rattle.replay.specs.Replay.{
 -- an answer, of the numbers and the blocks that its state holds
 abbrev with-state : Stopped → List ℕ → List ℕ → List ℕ → Held → Answered
 with-state a regs device local x =
-    answered (record { outcome = a .outcome; steps = a .steps; state = record { hot = x .hot; blocks = x .numbers } }) regs device local
+    answered (record { outcome = a .outcome; steps = a .steps; state = record { hot = x .hot; blocks = x .blocks } }) regs device local
 
 -- the answer of a run that stopped, its state made tidy
 pub ends-tidy :

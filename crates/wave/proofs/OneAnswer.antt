@@ -33,11 +33,11 @@ one-onward size h r q e f = e [] ∙ sym (f [])
 pub one-tidy : (h : Hot) (xs : List ℕ) (r q : Hot) (ys zs : List ℕ)
     → held r ys ≡ tidied h xs
     → held q zs ≡ tidied h xs → (r ≡ q) × (ys ≡ zs)
-one-tidy h xs r q ys zs e f = (ap (λ (x : Held). x .hot) (e ∙ sym f), ap (λ (x : Held). x .numbers) (e ∙ sym f))
+one-tidy h xs r q ys zs e f = (ap (λ (x : Held). x .hot) (e ∙ sym f), ap (λ (x : Held). x .blocks) (e ∙ sym f))
 
 abbrev steppedBy : Given → Stepped
 steppedBy g = record { barrier = g .barrier; hot = g .end .hot }
 
 pub one-control : (op : ControlOp) (all t : ℕ) (h : Hot) (xs ys zs : List ℕ) (r q : Stepped) → given r ys ≡ controlOf op all t h xs
     → given q zs ≡ controlOf op all t h xs → (r ≡ q) × (ys ≡ zs)
-one-control op all t h xs ys zs r q e f = (ap steppedBy (e ∙ sym f), ap (λ (g : Given). g .end .numbers) (e ∙ sym f))
+one-control op all t h xs ys zs r q e f = (ap steppedBy (e ∙ sym f), ap (λ (g : Given). g .end .blocks) (e ∙ sym f))

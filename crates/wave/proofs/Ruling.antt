@@ -201,15 +201,15 @@ abbrev pub stepped : ℕ → Hot → Stepped
 stepped n h = record { barrier = n; hot = h }
 
 module _ {h : Hot} {xs : List ℕ} {d : ℕ} (all : ℕ) where
-  pub meet-stops : Begun h xs d (next (h .place)) → barred all (waveOf h xs) ≡ true
+  pub barrier-stops : Begun h xs d (next (h .place)) → barred all (waveOf h xs) ≡ true
       → given (stepped (h .active) (hotAt h (h .place) (h .active) d)) xs ≡ giving (barrierLanes all (waveOf h xs)) (barrierRule all) h xs
-  meet-stops g b =
+  barrier-stops g b =
       ap₂ gives (rw b)
       (becomes g (barrierRule all) (h .place) (h .active) d (opened xs d) xs (rw b) (sym (length-opened xs d)) (sym (over-same xs d (room g))))
 
-  pub meet-goes : {p : ℕ} → Begun h xs d p → barred all (waveOf h xs) ≡ false
+  pub barrier-goes : {p : ℕ} → Begun h xs d p → barred all (waveOf h xs) ≡ false
       → given (stepped 0 (hotAt h p (h .active) d)) xs ≡ giving (barrierLanes all (waveOf h xs)) (barrierRule all) h xs
-  meet-goes g b = ap₂ gives (rw b) (keeps g (barrierRule all) (h .active) (rw b))
+  barrier-goes g b = ap₂ gives (rw b) (keeps g (barrierRule all) (h .active) (rw b))
 
 -- ---- any of them
 pub by-rule : (op v : ControlOp) (all t : ℕ) (h x : Hot) (xs ys : List ℕ) → op ≡ v → Does (controlRule v all t) h xs x ys

@@ -84,8 +84,8 @@ seen op all t h xs r ys l e =
     let w : Wave = controlRule op all t (waveOf h xs) in
     let k : length (w .path) ≤ nesting = control-room op all t (waveOf h xs) (roomy h xs) in
     record {
-      long = ap (λ (g : Given). length (g .end .numbers)) e ∙ long-over (w .path) xs l k;
-      wave = ap (λ (g : Given). waveOf (g .end .hot) (g .end .numbers)) e ∙ view w (predsOf h) xs k;
+      long = ap (λ (g : Given). length (g .end .blocks)) e ∙ long-over (w .path) xs l k;
+      wave = ap (λ (g : Given). waveOf (g .end .hot) (g .end .blocks)) e ∙ view w (predsOf h) xs k;
       preds = ap (λ (g : Given). predsOf (g .end .hot)) e;
       lanes = ap (λ (g : Given). g .barrier) e;
     }

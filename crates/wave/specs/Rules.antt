@@ -48,29 +48,41 @@ abbrev pub opening : ℕ → ℕ → ℕ → ℕ → Block
 opening part place active aside =
     record { part = part; opener = place; entered = active; aside = aside; again = 0; left = 0 }
 
+-- with another part, or another of its sets
+abbrev pub withPart : ℕ → Block → Block
+withPart n b =
+    record { part = n; opener = b .opener; entered = b .entered; aside = b .aside; again = b .again; left = b .left }
+
+abbrev pub withAside : ℕ → Block → Block
+withAside s b =
+    record { part = b .part; opener = b .opener; entered = b .entered; aside = s; again = b .again; left = b .left }
+
+abbrev pub withAgain : ℕ → Block → Block
+withAgain s b =
+    record { part = b .part; opener = b .opener; entered = b .entered; aside = b .aside; again = s; left = b .left }
+
+abbrev pub withLeft : ℕ → Block → Block
+withLeft s b =
+    record { part = b .part; opener = b .opener; entered = b .entered; aside = b .aside; again = b .again; left = s }
+
 -- its second half, with the lanes active at ELSE set aside
 abbrev pub turned : ℕ → Block → Block
-turned a b =
-    record { part = afterElse; opener = b .opener; entered = b .entered; aside = a; again = b .again; left = b .left }
+turned a b = withPart afterElse (withAside a b)
 
 -- gone round, with none continued
 abbrev pub wentRound : Block → Block
-wentRound b =
-    record { part = b .part; opener = b .opener; entered = b .entered; aside = b .aside; again = 0; left = b .left }
+wentRound b = withAgain 0 b
 
 -- left by the lanes t
 abbrev pub leave : ℕ → Block → Block
-leave t b =
-    record { part = b .part; opener = b .opener; entered = b .entered; aside = b .aside; again = b .again; left = bitOr (b .left) t }
+leave t b = withLeft (bitOr (b .left) t) b
 
 -- broken, continued by the lanes t
 abbrev pub broken : ℕ → Block → Block
-broken t b =
-    record { part = b .part; opener = b .opener; entered = b .entered; aside = bitOr (b .aside) t; again = b .again; left = b .left }
+broken t b = withAside (bitOr (b .aside) t) b
 
 abbrev pub continued : ℕ → Block → Block
-continued t b =
-    record { part = b .part; opener = b .opener; entered = b .entered; aside = b .aside; again = bitOr (b .again) t; left = b .left }
+continued t b = withAgain (bitOr (b .again) t) b
 
 abbrev pub isLoop : Block → Bool
 isLoop b = eqb (b .part) loopPart

@@ -61,10 +61,10 @@ clear = record { p1 = 0; p2 = 0; p3 = 0 }
 -- what the code holds: the hot numbers, and the lent array
 pub record Held : Type 0 where
   pub hot : Hot
-  pub numbers : List ℕ
+  pub blocks : List ℕ
 
 abbrev pub held : Hot → List ℕ → Held
-held h xs = record { hot = h; numbers = xs }
+held h xs = record { hot = h; blocks = xs }
 
 -- the same wave in numbers that it alone decides, zero past its open blocks
 abbrev pub tidied : Hot → List ℕ → Held

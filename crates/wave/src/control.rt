@@ -1,15 +1,15 @@
 // One control instruction, whichever it is.
 use crate::rules::Stepped;
-use crate::rules::aside::break_out;
-use crate::rules::aside::go_on;
-use crate::rules::barrier::meet;
-use crate::rules::closing::close_if;
-use crate::rules::closing::end_loop;
-use crate::rules::closing::turn_if;
-use crate::rules::going::pass;
-use crate::rules::halting::halt;
-use crate::rules::opening::open_if;
-use crate::rules::opening::open_loop;
+use crate::rules::aside::break_rule;
+use crate::rules::aside::continue_rule;
+use crate::rules::barrier::barrier_rule;
+use crate::rules::closing::else_rule;
+use crate::rules::closing::endif_rule;
+use crate::rules::closing::endloop_rule;
+use crate::rules::going::onward;
+use crate::rules::halting::halt_rule;
+use crate::rules::opening::if_rule;
+use crate::rules::opening::loop_rule;
 use crate::state::Hot;
 use crate::state::PATH_NUMBERS;
 use instructions::instr::ControlOp;
@@ -19,46 +19,52 @@ ghost use Rattle.wave.specs.Control.{given, controlOf};
 
 // One control instruction, by the executing lanes t; `all` are the launched lanes. Where BARRIER faults, its lanes are answered and the
 // wave is as before. What stands past the open blocks stays as lent, and a depth over 32 comes back as 32.
-pub fn control(op: ControlOp, t: Lanes, all: Lanes, h: Hot, bl: &mut [u32; PATH_NUMBERS]) -> Stepped
-    ensures { λ r. ⌜ given r (now (bl .exit)) ≡ controlOf op all t h (now (bl .entry)) ⌝ }
+pub fn control(
+    op: ControlOp,
+    t: Lanes,
+    all: Lanes,
+    h: Hot,
+    blocks: &mut [u32; PATH_NUMBERS],
+) -> Stepped
+    ensures { λ r. ⌜ given r (now (blocks .exit)) ≡ controlOf op all t h (now (blocks .entry)) ⌝ }
 {
     match op {
         ControlOp::If => Stepped {
             barrier: 0,
-            hot: open_if(h, t, bl),
+            hot: if_rule(h, t, blocks),
         },
         ControlOp::Else => Stepped {
             barrier: 0,
-            hot: turn_if(h, bl),
+            hot: else_rule(h, blocks),
         },
         ControlOp::Endif => Stepped {
             barrier: 0,
-            hot: close_if(h, bl),
+            hot: endif_rule(h, blocks),
         },
         ControlOp::Loop => Stepped {
             barrier: 0,
-            hot: open_loop(h, bl),
+            hot: loop_rule(h, blocks),
         },
         ControlOp::Break => Stepped {
             barrier: 0,
-            hot: break_out(h, t, bl),
+            hot: break_rule(h, t, blocks),
         },
         ControlOp::Continue => Stepped {
             barrier: 0,
-            hot: go_on(h, t, bl),
+            hot: continue_rule(h, t, blocks),
         },
         ControlOp::Endloop => Stepped {
             barrier: 0,
-            hot: end_loop(h, bl),
+            hot: endloop_rule(h, blocks),
         },
         ControlOp::Halt => Stepped {
             barrier: 0,
-            hot: halt(h, t, bl),
+            hot: halt_rule(h, t, blocks),
         },
-        ControlOp::Barrier => meet(h, all, bl),
+        ControlOp::Barrier => barrier_rule(h, all, blocks),
         ControlOp::Nop => Stepped {
             barrier: 0,
-            hot: pass(h, bl),
+            hot: onward(h, blocks),
         },
     }
 }

@@ -75,21 +75,21 @@ fn len_of(words: &[u32]) -> usize
 }
 
 // Does nothing where it runs: it tells its caller's proof how long the array of open blocks is.
-pub fn whole(bl: &[u32; PATH_NUMBERS])
-    ensures { λ r. ⌜ length (now (bl .entry)) ≡ pathNumbers ⌝ }
+pub fn whole(blocks: &[u32; PATH_NUMBERS])
+    ensures { λ r. ⌜ length (now (blocks .entry)) ≡ pathNumbers ⌝ }
 {
-    len_of(bl);
+    len_of(blocks);
 }
 
 // The numbers past the open blocks become zero, and a depth over 32 becomes 32, so that every number of the state is fixed by its wave.
-pub fn tidy(h: Hot, bl: &mut [u32; PATH_NUMBERS]) -> Hot
-    ensures { λ r. ⌜ held r (now (bl .exit)) ≡ tidied h (now (bl .entry)) ⌝ }
+pub fn tidy(h: Hot, blocks: &mut [u32; PATH_NUMBERS]) -> Hot
+    ensures { λ r. ⌜ held r (now (blocks .exit)) ≡ tidied h (now (blocks .entry)) ⌝ }
 {
-    whole(bl);
+    whole(blocks);
     let d = depth_of(h.depth);
     let mut k = BLOCK_NUMBERS * (d as usize);
     while k < PATH_NUMBERS {
-        bl[k] = 0;
+        blocks[k] = 0;
         k += 1;
     }
     let mut n = h;

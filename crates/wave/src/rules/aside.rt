@@ -25,11 +25,11 @@ ghost use Rattle.wave.specs.Search.{loopAt, same, Joins};
 
 // The outward search through open blocks: the lanes t leave each block inside the innermost loop, whose number is the answer; 32 where no
 // loop is open.
-fn leave_inner(depth: u32, t: Lanes, bl: &mut [u32; PATH_NUMBERS]) -> u32
-    ensures { λ r. ⌜ (r ≡ loopAt (opened (now (bl .entry)) (min depth nesting)))
-        × (now (bl .exit) ≡ over (toLoop same t (opened (now (bl .entry)) (min depth nesting))) (now (bl .entry))) ⌝ }
+fn leave_inner(depth: u32, t: Lanes, blocks: &mut [u32; PATH_NUMBERS]) -> u32
+    ensures { λ r. ⌜ (r ≡ loopAt (opened (now (blocks .entry)) (min depth nesting)))
+        × (now (blocks .exit) ≡ over (toLoop same t (opened (now (blocks .entry)) (min depth nesting))) (now (blocks .entry))) ⌝ }
 {
-    whole(bl);
+    whole(blocks);
     let mut i = depth_of(depth);
     let n = loop {
         if i == 0 {
@@ -37,33 +37,33 @@ fn leave_inner(depth: u32, t: Lanes, bl: &mut [u32; PATH_NUMBERS]) -> u32
         }
         i -= 1;
         let k = BLOCK_NUMBERS * (i as usize);
-        if bl[k] == LOOP {
+        if blocks[k] == LOOP {
             break i;
         }
-        bl[k + LEFT] = bl[k + LEFT] | t;
+        blocks[k + LEFT] = blocks[k + LEFT] | t;
     };
     n
 }
 
 // The lanes t join number k; past the array nothing happens.
-fn join_number(k: usize, t: Lanes, bl: &mut [u32; PATH_NUMBERS])
-    ensures { λ r. ⌜ now (bl .exit) ≡ set (now (bl .entry)) k (bitOr (getD (now (bl .entry)) k 0) t) ⌝ }
+fn join_number(k: usize, t: Lanes, blocks: &mut [u32; PATH_NUMBERS])
+    ensures { λ r. ⌜ now (blocks .exit) ≡ set (now (blocks .entry)) k (bitOr (getD (now (blocks .entry)) k 0) t) ⌝ }
 {
-    whole(bl);
+    whole(blocks);
     if k < PATH_NUMBERS {
-        bl[k] = bl[k] | t;
+        blocks[k] = blocks[k] | t;
     }
 }
 
 // The lanes t leave the active ones, and join a number of the innermost open loop; f is what that makes of the loop.
-fn set_aside(h: Hot, t: Lanes, number: usize, bl: &mut [u32; PATH_NUMBERS]) -> Hot
+fn aside_rule(h: Hot, t: Lanes, number: usize, blocks: &mut [u32; PATH_NUMBERS]) -> Hot
     requires { ⌜ number < blockNumbers ⌝ }
-    ensures { λ r. ⌜ ((f : Block → Block) → Joins f t number → Does (asideRule f t) h (now (bl .entry)) r (now (bl .exit))) ⌝ }
+    ensures { λ r. ⌜ ((f : Block → Block) → Joins f t number → Does (asideRule f t) h (now (blocks .entry)) r (now (blocks .exit))) ⌝ }
 {
-    whole(bl);
-    let l = leave_inner(h.depth, t, bl);
+    whole(blocks);
+    let l = leave_inner(h.depth, t, blocks);
     let k = BLOCK_NUMBERS * (l as usize) + number;
-    join_number(k, t, bl);
+    join_number(k, t, blocks);
     let mut n = h;
     n.place = after_place(h.place);
     n.active = without(h.active, t);
@@ -72,15 +72,15 @@ fn set_aside(h: Hot, t: Lanes, number: usize, bl: &mut [u32; PATH_NUMBERS]) -> H
 }
 
 // BREAK: the lanes t are set aside in the innermost open loop, as broken.
-pub(crate) fn break_out(h: Hot, t: Lanes, bl: &mut [u32; PATH_NUMBERS]) -> Hot
-    ensures { λ r. ⌜ Does (breakRule t) h (now (bl .entry)) r (now (bl .exit)) ⌝ }
+pub(crate) fn break_rule(h: Hot, t: Lanes, blocks: &mut [u32; PATH_NUMBERS]) -> Hot
+    ensures { λ r. ⌜ Does (breakRule t) h (now (blocks .entry)) r (now (blocks .exit)) ⌝ }
 {
-    set_aside(h, t, ASIDE, bl)
+    aside_rule(h, t, ASIDE, blocks)
 }
 
 // CONTINUE: the lanes t are set aside in the innermost open loop, as continued.
-pub(crate) fn go_on(h: Hot, t: Lanes, bl: &mut [u32; PATH_NUMBERS]) -> Hot
-    ensures { λ r. ⌜ Does (continueRule t) h (now (bl .entry)) r (now (bl .exit)) ⌝ }
+pub(crate) fn continue_rule(h: Hot, t: Lanes, blocks: &mut [u32; PATH_NUMBERS]) -> Hot
+    ensures { λ r. ⌜ Does (continueRule t) h (now (blocks .entry)) r (now (blocks .exit)) ⌝ }
 {
-    set_aside(h, t, AGAIN, bl)
+    aside_rule(h, t, AGAIN, blocks)
 }

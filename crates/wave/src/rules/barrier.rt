@@ -13,10 +13,10 @@ ghost use Rattle.wave.specs.Rules.{barrierLanes, barrierRule};
 ghost use Rattle.wave.specs.Control.{given, giving};
 
 // BARRIER: fault 5 where some lane is active and some launched, unhalted lane is not; `all` are the launched lanes.
-pub(crate) fn meet(h: Hot, all: Lanes, bl: &mut [u32; PATH_NUMBERS]) -> Stepped
-    ensures { λ r. ⌜ given r (now (bl .exit)) ≡ giving (barrierLanes all (waveOf h (now (bl .entry)))) (barrierRule all) h (now (bl .entry)) ⌝ }
+pub(crate) fn barrier_rule(h: Hot, all: Lanes, blocks: &mut [u32; PATH_NUMBERS]) -> Stepped
+    ensures { λ r. ⌜ given r (now (blocks .exit)) ≡ giving (barrierLanes all (waveOf h (now (blocks .entry)))) (barrierRule all) h (now (blocks .entry)) ⌝ }
 {
-    whole(bl);
+    whole(blocks);
     let here = h.active | h.halted;
     let rest = without(all, here);
     let stop = (h.active != 0) & (rest != 0);

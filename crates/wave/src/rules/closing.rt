@@ -13,10 +13,10 @@ ghost use Rattle.wave.specs.Wave.{Does};
 ghost use Rattle.wave.specs.Rules.{elseRule, endifRule, endloopRule};
 
 // ELSE: active and waiting lanes change places.
-pub(crate) fn turn_if(h: Hot, bl: &mut [u32; PATH_NUMBERS]) -> Hot
-    ensures { λ r. ⌜ Does elseRule h (now (bl .entry)) r (now (bl .exit)) ⌝ }
+pub(crate) fn else_rule(h: Hot, blocks: &mut [u32; PATH_NUMBERS]) -> Hot
+    ensures { λ r. ⌜ Does elseRule h (now (blocks .entry)) r (now (blocks .exit)) ⌝ }
 {
-    whole(bl);
+    whole(blocks);
     let d = depth_of(h.depth);
     let mut n = h;
     n.place = after_place(h.place);
@@ -26,18 +26,18 @@ pub(crate) fn turn_if(h: Hot, bl: &mut [u32; PATH_NUMBERS]) -> Hot
     }
     let e = d - 1;
     let k = BLOCK_NUMBERS * (e as usize);
-    let waiting = bl[k + ASIDE];
-    bl[k] = AFTER_ELSE;
-    bl[k + ASIDE] = h.active;
+    let waiting = blocks[k + ASIDE];
+    blocks[k] = AFTER_ELSE;
+    blocks[k + ASIDE] = h.active;
     n.active = waiting;
     n
 }
 
 // ENDIF: the waiting lanes join the active ones.
-pub(crate) fn close_if(h: Hot, bl: &mut [u32; PATH_NUMBERS]) -> Hot
-    ensures { λ r. ⌜ Does endifRule h (now (bl .entry)) r (now (bl .exit)) ⌝ }
+pub(crate) fn endif_rule(h: Hot, blocks: &mut [u32; PATH_NUMBERS]) -> Hot
+    ensures { λ r. ⌜ Does endifRule h (now (blocks .entry)) r (now (blocks .exit)) ⌝ }
 {
-    whole(bl);
+    whole(blocks);
     let d = depth_of(h.depth);
     let mut n = h;
     n.place = after_place(h.place);
@@ -47,16 +47,16 @@ pub(crate) fn close_if(h: Hot, bl: &mut [u32; PATH_NUMBERS]) -> Hot
     }
     let e = d - 1;
     let k = BLOCK_NUMBERS * (e as usize);
-    n.active = h.active | bl[k + ASIDE];
+    n.active = h.active | blocks[k + ASIDE];
     n.depth = e;
     n
 }
 
 // ENDLOOP: the continued lanes join the active ones; the loop goes round if any is active, and closes if none.
-pub(crate) fn end_loop(h: Hot, bl: &mut [u32; PATH_NUMBERS]) -> Hot
-    ensures { λ r. ⌜ Does endloopRule h (now (bl .entry)) r (now (bl .exit)) ⌝ }
+pub(crate) fn endloop_rule(h: Hot, blocks: &mut [u32; PATH_NUMBERS]) -> Hot
+    ensures { λ r. ⌜ Does endloopRule h (now (blocks .entry)) r (now (blocks .exit)) ⌝ }
 {
-    whole(bl);
+    whole(blocks);
     let d = depth_of(h.depth);
     let mut n = h;
     n.place = after_place(h.place);
@@ -66,14 +66,14 @@ pub(crate) fn end_loop(h: Hot, bl: &mut [u32; PATH_NUMBERS]) -> Hot
     }
     let e = d - 1;
     let k = BLOCK_NUMBERS * (e as usize);
-    let go = h.active | bl[k + AGAIN];
+    let go = h.active | blocks[k + AGAIN];
     if go == 0 {
-        n.active = bl[k + ASIDE];
+        n.active = blocks[k + ASIDE];
         n.depth = e;
         return n;
     }
-    n.place = after_place(bl[k + OPENER]);
+    n.place = after_place(blocks[k + OPENER]);
     n.active = go;
-    bl[k + AGAIN] = 0;
+    blocks[k + AGAIN] = 0;
     n
 }

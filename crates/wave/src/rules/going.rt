@@ -27,9 +27,9 @@ pub fn onward_by(size: u32, h: Hot) -> Hot
 }
 
 // NOP.
-pub(crate) fn pass(h: Hot, bl: &mut [u32; PATH_NUMBERS]) -> Hot
-    ensures { λ r. ⌜ Does onward h (now (bl .entry)) r (now (bl .exit)) ⌝ }
+pub(crate) fn onward(h: Hot, blocks: &mut [u32; PATH_NUMBERS]) -> Hot
+    ensures { λ r. ⌜ Does onward h (now (blocks .entry)) r (now (blocks .exit)) ⌝ }
 {
-    whole(bl);
+    whole(blocks);
     onward_by(1, h)
 }

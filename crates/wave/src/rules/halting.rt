@@ -12,16 +12,16 @@ ghost use Rattle.wave.specs.Wave.{Does};
 ghost use Rattle.wave.specs.Rules.{haltRule};
 
 // HALT: the lanes t halt for good, and leave every open block.
-pub(crate) fn halt(h: Hot, t: Lanes, bl: &mut [u32; PATH_NUMBERS]) -> Hot
-    ensures { λ r. ⌜ Does (haltRule t) h (now (bl .entry)) r (now (bl .exit)) ⌝ }
+pub(crate) fn halt_rule(h: Hot, t: Lanes, blocks: &mut [u32; PATH_NUMBERS]) -> Hot
+    ensures { λ r. ⌜ Does (haltRule t) h (now (blocks .entry)) r (now (blocks .exit)) ⌝ }
 {
-    whole(bl);
+    whole(blocks);
     let d = depth_of(h.depth);
     let mut i = d;
     while 0 < i {
         i -= 1;
         let k = BLOCK_NUMBERS * (i as usize) + LEFT;
-        bl[k] = bl[k] | t;
+        blocks[k] = blocks[k] | t;
     }
     let mut n = h;
     n.place = after_place(h.place);

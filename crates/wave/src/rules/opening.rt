@@ -24,24 +24,24 @@ ghost use Rattle.wave.specs.Wave.{Does};
 ghost use Rattle.wave.specs.Rules.{ifRule, loopRule};
 
 // Block d becomes b.
-fn put_block(d: u32, b: Block, bl: &mut [u32; PATH_NUMBERS])
+fn put_block(d: u32, b: Block, blocks: &mut [u32; PATH_NUMBERS])
     requires { ⌜ d < nesting ⌝ }
-    ensures { λ r. ⌜ now (bl .exit) ≡ put d b (now (bl .entry)) ⌝ }
+    ensures { λ r. ⌜ now (blocks .exit) ≡ put d b (now (blocks .entry)) ⌝ }
 {
     let k = BLOCK_NUMBERS * (d as usize);
-    bl[k] = b.part;
-    bl[k + OPENER] = b.opener;
-    bl[k + ENTERED] = b.entered;
-    bl[k + ASIDE] = b.aside;
-    bl[k + AGAIN] = b.again;
-    bl[k + LEFT] = b.left;
+    blocks[k] = b.part;
+    blocks[k + OPENER] = b.opener;
+    blocks[k + ENTERED] = b.entered;
+    blocks[k + ASIDE] = b.aside;
+    blocks[k + AGAIN] = b.again;
+    blocks[k + LEFT] = b.left;
 }
 
 // IF: the lanes t stay active, the rest of the active lanes wait.
-pub(crate) fn open_if(h: Hot, t: Lanes, bl: &mut [u32; PATH_NUMBERS]) -> Hot
-    ensures { λ r. ⌜ Does (ifRule t) h (now (bl .entry)) r (now (bl .exit)) ⌝ }
+pub(crate) fn if_rule(h: Hot, t: Lanes, blocks: &mut [u32; PATH_NUMBERS]) -> Hot
+    ensures { λ r. ⌜ Does (ifRule t) h (now (blocks .entry)) r (now (blocks .exit)) ⌝ }
 {
-    whole(bl);
+    whole(blocks);
     let d = depth_of(h.depth);
     let wait = without(h.active, t);
     let mut n = h;
@@ -59,16 +59,16 @@ pub(crate) fn open_if(h: Hot, t: Lanes, bl: &mut [u32; PATH_NUMBERS]) -> Hot
         again: 0,
         left: 0,
     };
-    put_block(d, b, bl);
+    put_block(d, b, blocks);
     n.depth = d + 1;
     n
 }
 
 // LOOP: every active lane enters.
-pub(crate) fn open_loop(h: Hot, bl: &mut [u32; PATH_NUMBERS]) -> Hot
-    ensures { λ r. ⌜ Does loopRule h (now (bl .entry)) r (now (bl .exit)) ⌝ }
+pub(crate) fn loop_rule(h: Hot, blocks: &mut [u32; PATH_NUMBERS]) -> Hot
+    ensures { λ r. ⌜ Does loopRule h (now (blocks .entry)) r (now (blocks .exit)) ⌝ }
 {
-    whole(bl);
+    whole(blocks);
     let d = depth_of(h.depth);
     let mut n = h;
     n.place = after_place(h.place);
@@ -84,7 +84,7 @@ pub(crate) fn open_loop(h: Hot, bl: &mut [u32; PATH_NUMBERS]) -> Hot
         again: 0,
         left: 0,
     };
-    put_block(d, b, bl);
+    put_block(d, b, blocks);
     n.depth = d + 1;
     n
 }

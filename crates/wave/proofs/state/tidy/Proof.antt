@@ -11,10 +11,10 @@ use Rattle.wave.proofs.state.tidy.Statement.{statement}
 use Rattle.wave.proofs.state.tidy.Tie as tie
 
 abbrev Inv-loop : tie.InvT-loop
-Inv-loop h bl₀ d k₀ bl k = (k ≤ pathNumbers) × (length bl ≡ pathNumbers) × (wiped k bl ≡ wiped k₀ bl₀)
+Inv-loop h blocks₀ d k₀ blocks k = (k ≤ pathNumbers) × (length blocks ≡ pathNumbers) × (wiped k blocks ≡ wiped k₀ blocks₀)
 
 abbrev μ-loop : tie.MeasureT-loop
-μ-loop h bl₀ d k₀ bl k = pathNumbers - k
+μ-loop h blocks₀ d k₀ blocks k = pathNumbers - k
 
 whole-requires : tie.Need-whole-requires Inv-loop μ-loop
 whole-requires c κs = tt
@@ -27,13 +27,13 @@ loop-holds c = (omega (arith, min-le-right (c .before .before .before .args .h .
 
 loop-again : tie.Need-loop-again Inv-loop μ-loop
 loop-again c = let l = c .before .loop in
-    (omega arith, simp length-set (l .inv .1), wipe-more (l .k) (l .bl) (omega arith) (l .inv .1) ∙ l .inv .2)
+    (omega arith, simp length-set (l .inv .1), wipe-more (l .k) (l .blocks) (omega arith) (l .inv .1) ∙ l .inv .2)
 
 returns : tie.Need-returns Inv-loop μ-loop
 returns c = let l = c .before .loop in
     let s = c .before .before .before .before .before .args in
-    tidy-end (s .h) (s .bl .now) (l .bl) _ (c .before .before .depth-of .ensures) (c .before .before .before .whole .ensures)
-    (wipe-end (l .k) (l .bl) (omega arith) (omega arith) (l .inv .1) ∙ l .inv .2)
+    tidy-end (s .h) (s .blocks .now) (l .blocks) _ (c .before .before .depth-of .ensures) (c .before .before .before .whole .ensures)
+    (wipe-end (l .k) (l .blocks) (omega arith) (omega arith) (l .inv .1) ∙ l .inv .2)
 
 pub tidy-spec : {M : Type 1} → statement M
 tidy-spec = tie.close (tie.spec

@@ -13,11 +13,11 @@ use Rattle.wave.proofs.rules.aside.leave_inner.Statement.{statement}
 use Rattle.wave.proofs.rules.aside.leave_inner.Tie as tie
 
 abbrev Inv-loop : tie.InvT-loop
-Inv-loop depth t bl₀ i₀ bl i = (i ≤ nesting) × (length bl ≡ pathNumbers) × (loopAt (opened bl i) ≡ loopAt (opened bl₀ i₀))
-    × (walked (toLoop same t) i bl ≡ walked (toLoop same t) i₀ bl₀)
+Inv-loop depth t blocks₀ i₀ blocks i = (i ≤ nesting) × (length blocks ≡ pathNumbers) × (loopAt (opened blocks i) ≡ loopAt (opened blocks₀ i₀))
+    × (walked (toLoop same t) i blocks ≡ walked (toLoop same t) i₀ blocks₀)
 
 abbrev μ-loop : tie.MeasureT-loop
-μ-loop depth t bl₀ i₀ bl i = i
+μ-loop depth t blocks₀ i₀ blocks i = i
 
 whole-requires : tie.Need-whole-requires Inv-loop μ-loop
 whole-requires c κs = tt
@@ -33,25 +33,25 @@ loop-again c = let l = c .before .before .before .before .loop in
     let p : 0 < l .i = omega (arith, c .before .before .before .if1 .left) in (
       omega arith,
       simp length-set (l .inv .1),
-      number-past (l .bl) _ (l .i) p (c .before .if2 .left) ∙ l .inv .2,
-      walk-past (c .before .before .before .before .before .before .before .before .args .t) (l .bl) (l .i) p (omega arith) (c .before .if2 .left) ∙ l .inv .3,
+      number-past (l .blocks) _ (l .i) p (c .before .if2 .left) ∙ l .inv .2,
+      walk-past (c .before .before .before .before .before .before .before .before .args .t) (l .blocks) (l .i) p (omega arith) (c .before .if2 .left) ∙ l .inv .3,
     )
 
 returns : tie.Need-returns Inv-loop μ-loop
 returns c = let l = c .before .loop in
     let s = c .before .before .before .before .before .args in (
-      number-none (s .bl .now) (l .bl) (l .i) _ _ (c .if1 .taken) (c .before .before .depth-of .ensures) (l .inv .2),
-      walked-over (s .t) (s .bl .now) (l .bl) _ _ (c .before .before .depth-of .ensures)
-          (sym (walked-none (toLoop same (s .t)) (l .bl) (l .i) refl (c .if1 .taken)) ∙ l .inv .3),
+      number-none (s .blocks .now) (l .blocks) (l .i) _ _ (c .if1 .taken) (c .before .before .depth-of .ensures) (l .inv .2),
+      walked-over (s .t) (s .blocks .now) (l .blocks) _ _ (c .before .before .depth-of .ensures)
+          (sym (walked-none (toLoop same (s .t)) (l .blocks) (l .i) refl (c .if1 .taken)) ∙ l .inv .3),
     )
 
 returns-2 : tie.Need-returns-2 Inv-loop μ-loop
 returns-2 c = let l = c .before .before .before .loop in
     let s = c .before .before .before .before .before .before .before .args in
     let p : 0 < l .i = omega (arith, c .before .before .if1 .left) in (
-      number-at (l .bl) (l .i) p (c .if2 .taken) ∙ l .inv .2 ∙ ap (λ (d : ℕ). loopAt (opened (s .bl .now) d)) (c .before .before .before .before .depth-of .ensures),
-      walked-over (s .t) (s .bl .now) (l .bl) _ _ (c .before .before .before .before .depth-of .ensures)
-          (walk-at (s .t) (l .bl) (l .i) p (omega arith) (c .if2 .taken) ∙ l .inv .3),
+      number-at (l .blocks) (l .i) p (c .if2 .taken) ∙ l .inv .2 ∙ ap (λ (d : ℕ). loopAt (opened (s .blocks .now) d)) (c .before .before .before .before .depth-of .ensures),
+      walked-over (s .t) (s .blocks .now) (l .blocks) _ _ (c .before .before .before .before .depth-of .ensures)
+          (walk-at (s .t) (l .blocks) (l .i) p (omega arith) (c .if2 .taken) ∙ l .inv .3),
     )
 
 pub leave-inner-spec : {M : Type 1} → statement M

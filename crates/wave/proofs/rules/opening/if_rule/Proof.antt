@@ -4,12 +4,12 @@ use Rattle.wave.specs.Layout.{beforeElse}
 use Rattle.wave.specs.Rules.{ifRule, opening}
 use Rattle.wave.proofs.Ruling.{Begun, full, opened-one}
 use borrow.Author.Needs.{needs}
-use Rattle.wave.proofs.rules.opening.open_if.Statement.{statement}
-use Rattle.wave.proofs.rules.opening.open_if.Tie as tie
+use Rattle.wave.proofs.rules.opening.if_rule.Statement.{statement}
+use Rattle.wave.proofs.rules.opening.if_rule.Tie as tie
 
 -- what is read before any block is looked at
 begun : (z : tie.After-after-place)
-    → Begun (z .before .before .before .before .before .args .h) (z .before .before .before .before .before .args .bl .now) (z .before .before .depth-of .result) (z .after-place .result)
+    → Begun (z .before .before .before .before .before .args .h) (z .before .before .before .before .before .args .blocks .now) (z .before .before .depth-of .result) (z .after-place .result)
 begun z =
     record { long = z .before .before .before .whole .ensures; depth = z .before .before .depth-of .ensures; place = z .after-place .ensures }
 
@@ -25,7 +25,7 @@ returns-2 : tie.Need-returns-2
 returns-2 c = let z = c .before .before .before .before in
     opened-one (begun z) (ifRule (z .before .before .before .before .before .args .t)) _ (block z) (c .before .before .if1 .left) (rw (z .before .without .ensures)) _ (c .put-block .ensures)
 
-pub open-if-spec : {M : Type 1} → statement M
-open-if-spec = tie.close (tie.spec
+pub if-rule-spec : {M : Type 1} → statement M
+if-rule-spec = tie.close (tie.spec
     (λ c κs. search needs) (λ c κs. search needs) (λ c κs. search needs) (λ c κs. search needs) returns (λ c κs. search needs)
     (λ c. search needs) returns-2)

@@ -10,14 +10,14 @@ use Rattle.wave.specs.Layout.{pathNumbers}
 use Rattle.wave.specs.Rules.{leave}
 use Rattle.wave.proofs.Ruling.{halted-all}
 use Rattle.wave.proofs.Walks.{walked, walk-leave, walked-none}
-use Rattle.wave.proofs.rules.halting.halt.Statement.{statement}
-use Rattle.wave.proofs.rules.halting.halt.Tie as tie
+use Rattle.wave.proofs.rules.halting.halt_rule.Statement.{statement}
+use Rattle.wave.proofs.rules.halting.halt_rule.Tie as tie
 
 abbrev Inv-loop : tie.InvT-loop
-Inv-loop h t bl₀ d i₀ bl i = (i ≤ nesting) × (length bl ≡ pathNumbers) × (walked (map (leave t)) i bl ≡ walked (map (leave t)) i₀ bl₀)
+Inv-loop h t blocks₀ d i₀ blocks i = (i ≤ nesting) × (length blocks ≡ pathNumbers) × (walked (map (leave t)) i blocks ≡ walked (map (leave t)) i₀ blocks₀)
 
 abbrev μ-loop : tie.MeasureT-loop
-μ-loop h t bl₀ d i₀ bl i = i
+μ-loop h t blocks₀ d i₀ blocks i = i
 
 whole-requires : tie.Need-whole-requires Inv-loop μ-loop
 whole-requires c κs = tt
@@ -30,7 +30,7 @@ loop-holds c = (omega (arith, min-le-right (c .before .before .before .args .h .
 
 loop-again : tie.Need-loop-again Inv-loop μ-loop
 loop-again c = let l = c .before .before .loop in
-    (omega arith, simp length-set (l .inv .1), walk-leave (c .before .before .before .before .before .before .args .t) (l .bl) (l .i) (omega arith) (omega arith) ∙ l .inv .2)
+    (omega arith, simp length-set (l .inv .1), walk-leave (c .before .before .before .before .before .before .args .t) (l .blocks) (l .i) (omega arith) (omega arith) ∙ l .inv .2)
 
 after-place-requires : tie.Need-after-place-requires Inv-loop μ-loop
 after-place-requires c κs = tt
@@ -42,10 +42,10 @@ returns : tie.Need-returns Inv-loop μ-loop
 returns c = let l = c .before .before .before .before .loop in
     let s = c .before .before .before .before .before .before .before .before .args in
     halted-all {h = s .h} (record { long = c .before .before .before .before .before .before .whole .ensures; depth = c .before .before .before .before .before .depth-of .ensures; place = c .before .before .after-place .ensures }) _ (s .t) _
-    (c .before .without .ensures) (sym (walked-none (map (leave (s .t))) (l .bl) (l .i) refl (omega arith)) ∙ l .inv .2)
+    (c .before .without .ensures) (sym (walked-none (map (leave (s .t))) (l .blocks) (l .i) refl (omega arith)) ∙ l .inv .2)
 
-pub halt-spec : {M : Type 1} → statement M
-halt-spec = tie.close (tie.spec
+pub halt-rule-spec : {M : Type 1} → statement M
+halt-rule-spec = tie.close (tie.spec
     Inv-loop μ-loop whole-requires depth-of-requires loop-holds (λ c. omega arith) (λ c. omega arith) (λ c. omega arith) (λ c. omega arith)
     (λ c. omega arith) (λ c. omega arith) (λ c. omega arith) (λ c. omega arith) (λ c. omega arith) loop-again after-place-requires
     without-requires returns)

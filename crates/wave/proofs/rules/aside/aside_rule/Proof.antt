@@ -1,8 +1,8 @@
 -- The search marks the blocks inside the loop, and one store sets the lanes aside in it.
 use Rattle.wave.proofs.Ruling.{set-aside}
 use borrow.Author.Needs.{needs}
-use Rattle.wave.proofs.rules.aside.set_aside.Statement.{statement}
-use Rattle.wave.proofs.rules.aside.set_aside.Tie as tie
+use Rattle.wave.proofs.rules.aside.aside_rule.Statement.{statement}
+use Rattle.wave.proofs.rules.aside.aside_rule.Tie as tie
 
 returns : tie.Need-returns
 returns c f joins = let s = c .before .before .before .before .before .before .before .before .before .args in
@@ -11,7 +11,7 @@ returns c f joins = let s = c .before .before .before .before .before .before .b
     (record { long = c .before .before .before .before .before .before .before .whole .ensures; depth = c .depth-of .ensures; place = c .before .before .after-place .ensures }) _ _ _ _
     (c .before .without .ensures) (found .0) (found .1) (c .before .before .before .join-number .ensures)
 
-pub set-aside-spec : {M : Type 1} → statement M
-set-aside-spec = tie.close (tie.spec
+pub aside-rule-spec : {M : Type 1} → statement M
+aside-rule-spec = tie.close (tie.spec
     (λ c κs. search needs) (λ c κs. search needs) (λ c. search needs) (λ c. search needs) (λ c. search needs) (λ c κs. search needs)
     (λ c κs. search needs) (λ c κs. search needs) (λ c κs. search needs) returns)

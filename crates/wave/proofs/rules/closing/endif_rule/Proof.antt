@@ -3,12 +3,12 @@ use mathlib.Core.Path.{refl}
 use Rattle.wave.specs.Rules.{endifRule}
 use Rattle.wave.proofs.Ruling.{Begun, none-open, closed-one}
 use borrow.Author.Needs.{needs}
-use Rattle.wave.proofs.rules.closing.close_if.Statement.{statement}
-use Rattle.wave.proofs.rules.closing.close_if.Tie as tie
+use Rattle.wave.proofs.rules.closing.endif_rule.Statement.{statement}
+use Rattle.wave.proofs.rules.closing.endif_rule.Tie as tie
 
 -- what is read before any block is looked at
 begun : (z : tie.After-after-place)
-    → Begun (z .before .before .before .before .args .h) (z .before .before .before .before .args .bl .now) (z .before .depth-of .result) (z .after-place .result)
+    → Begun (z .before .before .before .before .args .h) (z .before .before .before .before .args .blocks .now) (z .before .depth-of .result) (z .after-place .result)
 begun z =
     record { long = z .before .before .whole .ensures; depth = z .before .depth-of .ensures; place = z .after-place .ensures }
 
@@ -18,7 +18,7 @@ returns c = none-open (begun (c .before)) endifRule (c .if1 .taken) refl
 returns-2 : tie.Need-returns-2
 returns-2 c = closed-one _ (begun (c .before .before .before)) (c .before .before .if1 .left)
 
-pub close-if-spec : {M : Type 1} → statement M
-close-if-spec = tie.close (tie.spec
+pub endif-rule-spec : {M : Type 1} → statement M
+endif-rule-spec = tie.close (tie.spec
     (λ c κs. search needs) (λ c κs. search needs) (λ c κs. search needs) returns (λ c. search needs) (λ c. search needs)
     (λ c. search needs) (λ c. search needs) (λ c. search needs) (λ c. search needs) returns-2)

@@ -5,12 +5,12 @@ use Rattle.wave.specs.Layout.{loopPart}
 use Rattle.wave.specs.Rules.{loopRule, opening}
 use Rattle.wave.proofs.Ruling.{Begun, full, opened-one}
 use borrow.Author.Needs.{needs}
-use Rattle.wave.proofs.rules.opening.open_loop.Statement.{statement}
-use Rattle.wave.proofs.rules.opening.open_loop.Tie as tie
+use Rattle.wave.proofs.rules.opening.loop_rule.Statement.{statement}
+use Rattle.wave.proofs.rules.opening.loop_rule.Tie as tie
 
 -- what is read before any block is looked at
 begun : (z : tie.After-after-place)
-    → Begun (z .before .before .before .before .args .h) (z .before .before .before .before .args .bl .now) (z .before .depth-of .result) (z .after-place .result)
+    → Begun (z .before .before .before .before .args .h) (z .before .before .before .before .args .blocks .now) (z .before .depth-of .result) (z .after-place .result)
 begun z =
     record { long = z .before .before .whole .ensures; depth = z .before .depth-of .ensures; place = z .after-place .ensures }
 
@@ -26,6 +26,6 @@ returns-2 : tie.Need-returns-2
 returns-2 c = let s = c .before .before .before .before .before .before .before in
     opened-one (begun (c .before .before .before)) loopRule _ (block s) (c .before .before .if1 .left) refl _ (c .put-block .ensures)
 
-pub open-loop-spec : {M : Type 1} → statement M
-open-loop-spec = tie.close (tie.spec
+pub loop-rule-spec : {M : Type 1} → statement M
+loop-rule-spec = tie.close (tie.spec
     (λ c κs. search needs) (λ c κs. search needs) (λ c κs. search needs) returns (λ c κs. search needs) (λ c. search needs) returns-2)

@@ -3,12 +3,12 @@ use mathlib.Core.Path.{refl}
 use Rattle.wave.specs.Rules.{endloopRule}
 use Rattle.wave.proofs.Ruling.{Begun, none-open, done-one, round-one}
 use borrow.Author.Needs.{needs}
-use Rattle.wave.proofs.rules.closing.end_loop.Statement.{statement}
-use Rattle.wave.proofs.rules.closing.end_loop.Tie as tie
+use Rattle.wave.proofs.rules.closing.endloop_rule.Statement.{statement}
+use Rattle.wave.proofs.rules.closing.endloop_rule.Tie as tie
 
 -- what is read before any block is looked at
 begun : (z : tie.After-after-place)
-    → Begun (z .before .before .before .before .args .h) (z .before .before .before .before .args .bl .now) (z .before .depth-of .result) (z .after-place .result)
+    → Begun (z .before .before .before .before .args .h) (z .before .before .before .before .args .blocks .now) (z .before .depth-of .result) (z .after-place .result)
 begun z =
     record { long = z .before .before .whole .ensures; depth = z .before .depth-of .ensures; place = z .after-place .ensures }
 
@@ -21,8 +21,8 @@ returns-2 c = done-one _ (begun (c .before .before .before .before .before)) (c 
 returns-3 : tie.Need-returns-3
 returns-3 c = round-one _ _ (begun (c .before .before .before .before .before .before)) (c .before .before .before .before .before .if1 .left) (c .before .before .if2 .left) (c .after-place2 .ensures)
 
-pub end-loop-spec : {M : Type 1} → statement M
-end-loop-spec = tie.close (tie.spec
+pub endloop-rule-spec : {M : Type 1} → statement M
+endloop-rule-spec = tie.close (tie.spec
     (λ c κs. search needs) (λ c κs. search needs) (λ c κs. search needs) returns (λ c. search needs) (λ c. search needs)
     (λ c. search needs) (λ c. search needs) (λ c. search needs) (λ c. search needs) (λ c. search needs) (λ c. search needs)
     (λ c. search needs) returns-2 (λ c. search needs) (λ c. search needs) (λ c. search needs) (λ c κs. search needs) (λ c. search needs)
