@@ -1,14 +1,17 @@
 -- What a step leaves, lane by lane and word by word, where it is in shape and no lane faults.
 use Prim.Native.Nat.{ℕ, zero, suc, _≤_, _<_}
 use native.Mathlib.Omega.{arith}
-use mathlib.Core.Path.{_≡_, refl, ap, _∙_}
-use mathlib.Core.Bool.{true}
-use lib.Dec.{eqb}
+use mathlib.Core.Path.{_≡_, refl, sym, ap, _∙_}
+use mathlib.Core.Bool.{true, _&&_}
+use lib.Dec.{eqb, leb}
+use borrow.Author.Tests.{leb-true}
+use Rattle.ground.proofs.Bools.{and-left, and-right}
 use lib.ListN.{length, getD}
 use Rattle.lanes.specs.Sets.{has}
 use Rattle.instructions.specs.declared.instr.Op.{Op}
 use Rattle.instructions.specs.declared.instr.Space.{Space}
 use Rattle.instructions.specs.declared.instr.Instr.{Instr}
+use Rattle.instructions.specs.Forms.{limitsOf, guardFits, secondFits, fits, valid}
 use Rattle.words.specs.declared.fetching.ControlIn.{ControlIn}
 use Rattle.words.specs.Fetching.{controlIn}
 use Rattle.words.proofs.Fetches.{control-is}
@@ -16,7 +19,7 @@ use Rattle.wave.specs.Wave.{Preds}
 use Rattle.compute.specs.declared.Shape.{Shape}
 use Rattle.compute.specs.Memory.{memoryOf, wordOf}
 use Rattle.compute.specs.Operands.{Lent}
-use Rattle.compute.specs.Values.{register as to-register, predicate as to-predicate, targetBy}
+use Rattle.compute.specs.Values.{register as to-register, predicate as to-predicate, nothing as to-nothing, targetBy}
 use Rattle.compute.specs.Faulting.{clear}
 use Rattle.compute.specs.Carrying.{Outcome, inShape}
 use Rattle.runs.specs.Results.{register, rdOf, reachOf, resultOf, Changes}
@@ -34,6 +37,31 @@ named-with (suc zero) q ps a b = refl
 named-with (suc (suc zero)) q ps a b = refl
 named-with (suc (suc (suc zero))) q ps a b = refl
 named-with (suc (suc (suc (suc k)))) q ps a b = absurd (omega arith)
+
+-- the register RD is no predicate, and neither is nothing
+not-register : to-register ≡ to-predicate → ⊥
+not-register g = let z : _≡_ {A = ℕ} 0 1 = cc in omega arith
+
+not-nothing : to-nothing ≡ to-predicate → ⊥
+not-nothing g = let z : _≡_ {A = ℕ} 0 1 = cc in omega arith
+
+-- what an instruction that words give has in RD, where it names a predicate: 1 to 3
+names-predicate : (x : Instr) (o : Op) → x .op ≡ o → valid x ≡ true → targetBy o ≡ to-predicate → (1 ≤ x .rd) × (x .rd ≤ 3)
+names-predicate x (Op.Compare c) e ok g =
+    let o = Op.Compare c in
+    let last = leb (x .rs1) (limitsOf o .rs1) && secondFits (limitsOf o .second) x in
+    let most = leb (x .rd) 3 && last in
+    let both = and-right (guardFits (limitsOf o .need) (x .guard)) (leb 1 (x .rd) && most) (sym (ap (λ (p : Op). fits (limitsOf p) x) e) ∙ ok) in
+    (leb-true 1 (x .rd) (and-left (leb 1 (x .rd)) most both), leb-true (x .rd) 3 (and-left (leb (x .rd) 3) last (and-right (leb 1 (x .rd)) most both)))
+names-predicate x (Op.Two o) e ok g = absurd (not-register g)
+names-predicate x (Op.One o) e ok g = absurd (not-register g)
+names-predicate x Op.Special e ok g = absurd (not-register g)
+names-predicate x Op.Number e ok g = absurd (not-register g)
+names-predicate x (Op.Load q) e ok g = absurd (not-register g)
+names-predicate x (Op.Store q) e ok g = absurd (not-nothing g)
+names-predicate x (Op.Atomic o) e ok g = absurd (not-register g)
+names-predicate x Op.Cas e ok g = absurd (not-register g)
+names-predicate x (Op.Control o) e ok g = absurd (not-nothing g)
 
 module _ (s : Settings) (x : Instr) (m : Machine) where
   -- the executing lanes, and what they are lent
@@ -78,11 +106,12 @@ module _ (s : Settings) (x : Instr) (m : Machine) where
           ap (λ (k : Machine). register shape (k .regs) i (x .rd)) goes ∙ result-in-rd shape x t lent shaped lanes-clear g i h e
 
       -- AND ITS BIT of the predicate that a comparison's RD names says whether it holds
-      pub step-bit : targetBy (x .op) ≡ to-predicate → 1 ≤ x .rd → x .rd ≤ 3 → (i : ℕ) → i < s .width → has t i ≡ true
+      pub step-bit : valid x ≡ true → targetBy (x .op) ≡ to-predicate → (i : ℕ) → i < s .width → has t i ≡ true
           → has (named (x .rd) (stepOf s x m .end .preds)) i ≡ eqb (resultOf shape x t lent i) 1
-      step-bit g a b i h e =
+      step-bit ok g i h e =
+          let rd = names-predicate x (x .op) refl ok g in
           ap (λ (k : Machine). has (named (x .rd) (k .preds)) i) goes
-          ∙ ap (λ (p : ℕ). has p i) (named-with (x .rd) (computed s x t m .after .predicate) (m .preds) a b)
+          ∙ ap (λ (p : ℕ). has p i) (named-with (x .rd) (computed s x t m .after .predicate) (m .preds) (rd .0) (rd .1))
           ∙ bit-in-predicate shape x t lent shaped lanes-clear g i h e
 
       module _ (q : Space) (stores : x .op ≡ Op.Store q) where
