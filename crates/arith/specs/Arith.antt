@@ -37,6 +37,10 @@ places b = b % 32
 abbrev pub addressOf : ℕ → ℕ → ℕ
 addressOf base offset = wrapped (base + offset)
 
+-- the number of the word that an address names
+abbrev pub wordOf : ℕ → ℕ
+wordOf address = address / 4
+
 -- the operations on RS1 and RS2. DIV cuts toward zero, REM takes the dividend's sign; a divisor of zero, which faults, gives here 0 and the dividend
 abbrev pub twoOf : TwoOp → ℕ → ℕ → ℕ
 twoOf TwoOp.Add a b = wrapped (a + b)

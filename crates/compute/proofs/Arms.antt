@@ -12,20 +12,21 @@ use Rattle.instructions.specs.declared.instr.ControlOp.{ControlOp}
 use Rattle.instructions.specs.declared.instr.Space.{Space}
 use Rattle.instructions.specs.declared.instr.Op.{Op}
 use Rattle.instructions.specs.declared.instr.Instr.{Instr}
-use Rattle.arith.specs.Arith.{addressOf}
+use Rattle.arith.specs.Arith.{addressOf, wordOf}
+use Rattle.faulting.specs.declared.faults.Faults.{Faults}
+use Rattle.faulting.specs.Kinds.{noFaults}
+use Rattle.faulting.specs.Causes.{addressFault, kindsOf, addressFaults}
+use Rattle.faulting.proofs.FaultKinds.{kinds-same, no-kinds}
 use Rattle.compute.specs.declared.Shape.{Shape}
-use Rattle.compute.specs.declared.faults.Faults.{Faults}
 use Rattle.compute.specs.declared.memory.Change.{Change}
 use Rattle.compute.specs.Registers.{byLane, gatherOf, writeLanes}
-use Rattle.compute.specs.Memory.{Memories, memories, memoryOf, wordOf, changesOf, oldOf}
+use Rattle.compute.specs.Memory.{Memories, memories, memoryOf, changesOf, oldOf}
 use Rattle.compute.specs.Operands.{Lent, lent, operandsOf}
 use Rattle.compute.specs.Values.{specialOf, resultsOf, predicateOf, changed}
-use Rattle.compute.specs.Faulting.{noFaults, kindsOf, addressFault}
 use Rattle.compute.specs.Carrying.{Outcome, outcome, faultsOf, afterOf, unlessFault, havingRead}
 use Rattle.compute.specs.Lanewise.{twoLanes, compareLanes, oneLanes, loadLanes, changeTo}
-use Rattle.compute.specs.Classes.{Settled, addressFaults, divisorFaults, Writes, Computes, reached, Loads, storesOf, StoresIn, Changes}
+use Rattle.compute.specs.Classes.{Settled, dividingFaults, Writes, Computes, reached, Loads, storesOf, StoresIn, Changes}
 use Rattle.compute.proofs.Lanewise.{getD-by-lane, by-lane-same}
-use Rattle.compute.proofs.FaultKinds.{kinds-same, no-kinds}
 use Rattle.compute.proofs.Settling.{settled-as, settled-within, settled-both}
 
 settled-outcome : {faults answer : Faults} {changed before after : Lent} → Settled faults changed answer before after
@@ -62,7 +63,7 @@ module _ (shape : Shape) (x : Instr) (t p : ℕ) (regs device local : List ℕ) 
   unfaulted after = ap (λ (f : Faults). unlessFault f before after) (no-kinds W t (λ i. 0) (λ i b. refl))
 
   as-two : (o : TwoOp) → x .op ≡ Op.Two o
-      → unlessFault (divisorFaults o shape regs (x .rs2) t) before (left (write (twoLanes o shape regs (x .rs1) (x .rs2))) both) ≡ done
+      → unlessFault (dividingFaults o shape regs (x .rs2) t) before (left (write (twoLanes o shape regs (x .rs1) (x .rs2))) both) ≡ done
   unfolding faultsOf afterOf resultsOf twoLanes
   as-two o e = rw e refl
 

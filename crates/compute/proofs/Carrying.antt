@@ -17,17 +17,18 @@ use Rattle.instructions.specs.declared.instr.ControlOp.{ControlOp}
 use Rattle.instructions.specs.declared.instr.Op.{Op}
 use Rattle.instructions.specs.declared.instr.Instr.{Instr}
 use Rattle.instructions.specs.Registers.{registersOf}
+use Rattle.faulting.specs.declared.faults.Faults.{Faults}
+use Rattle.faulting.specs.Kinds.{noFaults, clear}
+use Rattle.faulting.specs.Causes.{kindsOf}
+use Rattle.faulting.proofs.FaultKinds.{idle-kinds}
 use Rattle.compute.specs.declared.Shape.{Shape}
-use Rattle.compute.specs.declared.faults.Faults.{Faults}
 use Rattle.compute.specs.Registers.{slotIn, writeLanes}
 use Rattle.compute.specs.Memory.{Memories, memories, memoryOf, changesOf}
 use Rattle.compute.specs.Operands.{Lent, Operands, operandsOf}
 use Rattle.compute.specs.Values.{resultsOf, targetBy, regsBy, predicateOf, predicateBy, changed, memoriesBy}
-use Rattle.compute.specs.Faulting.{noFaults, kindsOf, clear}
 use Rattle.compute.specs.Carrying.{Outcome, outcome, inShape, faultsOf, afterOf, unlessFault, havingRead, carriedOf}
 use Rattle.compute.proofs.Writing.{length-write-lanes, written}
 use Rattle.compute.proofs.Changing.{length-changes}
-use Rattle.compute.proofs.FaultKinds.{idle-kinds}
 use Rattle.compute.proofs.Standing.{stands-rd}
 use Rattle.compute.proofs.Arms.{arm-control}
 

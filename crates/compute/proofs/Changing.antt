@@ -7,7 +7,8 @@ use lib.ListN.{length, getD, set}
 use Rattle.ground.proofs.Lists.{length-inOrder}
 use Rattle.ground.proofs.Choices.{length-set-cond}
 use Rattle.lanes.specs.Sets.{has}
-use Rattle.compute.specs.Memory.{wordOf, wordAt, changeTurn, changesOf}
+use Rattle.arith.specs.Arith.{wordOf}
+use Rattle.compute.specs.Memory.{wordAt, changeTurn, changesOf}
 
 -- whether the lane executes, and what it stores
 pub store-turn : (at : List ℕ) (v : ℕ → ℕ) (t i : ℕ) (memory next : List ℕ) (p : Bool) (new : ℕ) → p ≡ has t i → new ≡ v i

@@ -1,155 +1,65 @@
--- The lanes of a fault: they execute, they are lanes of the wave, no lane is of two kinds; and which kinds come together.
-use mathlib.Core.Path.{_≡_, refl, sym, _∙_, subst}
-use mathlib.Core.Bool.{Bool, true, false, _&&_, cond}
-use mathlib.Core.List.{List, [], _∷_}
-use Prim.Native.Nat.{ℕ, suc, _<_}
-use lib.Bits.{bitAnd, and-zero-l, and-zero-r}
-use lib.Dec.{eqb, ltb}
+-- The faults of an instruction: their lanes execute and are lanes of the wave, no lane is of two kinds; and which kinds come together.
+use mathlib.Core.Path.{_≡_, refl}
+use mathlib.Core.Bool.{Bool, true, false, cond}
+use Prim.Native.Nat.{ℕ}
 use lib.ListN.{length, getD}
-use borrow.Author.Tests.{ltb-true, eqb-true}
-use Rattle.ground.proofs.Bools.{never, and-left, and-right}
-use Rattle.ground.proofs.Choices.{cond-by}
-use Rattle.lanes.specs.Sets.{has}
-use Rattle.lanes.proofs.Members.{has-and, has-zero, has-ext}
-use Rattle.instructions.specs.declared.instr.TwoOp.{TwoOp}
-use Rattle.instructions.specs.declared.instr.Space.{Space}
 use Rattle.instructions.specs.declared.instr.Op.{Op}
+use Rattle.instructions.specs.declared.instr.Space.{Space}
 use Rattle.instructions.specs.declared.instr.Instr.{Instr}
-use Rattle.arith.specs.Arith.{addressOf}
+use Rattle.arith.specs.Arith.{addressOf, divides}
+use Rattle.faulting.specs.Kinds.{lanesOfKind}
+use Rattle.faulting.specs.Causes.{divisorFault, kindsOf}
+use Rattle.faulting.proofs.KindsApart.{
+  Within,
+  kinds-within,
+  no-faults-within,
+  Apart,
+  kinds-apart,
+  no-faults-apart,
+  Form,
+  no-faults-form,
+  unfaulted-form,
+  address-form,
+  divisor-form,
+}
 use Rattle.compute.specs.declared.Shape.{Shape}
-use Rattle.compute.specs.declared.faults.Faults.{Faults}
 use Rattle.compute.specs.Memory.{Memories, memoryOf}
 use Rattle.compute.specs.Operands.{Lent, operandsOf}
-use Rattle.compute.specs.Faulting.{pastKind, addressFault, divisorFault, faultBy, faultLanes, ofKinds, lanesOfKind, noFaults, kindsOf, ofBarrier}
+use Rattle.compute.specs.Faulting.{faultBy}
 use Rattle.compute.specs.Carrying.{Outcome, faultsOf, carriedOf}
-use Rattle.compute.proofs.EveryKind.{of-each-kind, isIn, not-first, not-rest, Only}
-use Rattle.compute.proofs.FaultKinds.{has-fault, no-kinds, no-other, none-but-divisors}
 use Rattle.compute.proofs.Carrying.{carried-by}
 
--- ---- the lanes of one kind
+module _ (shape : Shape) (x : Instr) (t : ℕ) (m : Lent) where
+  pub fault-executes : (k : ℕ) → Within (shape .width) t (lanesOfKind k (carriedOf shape x t m .faults))
+  unfolding faultsOf
+  fault-executes k =
+      carried-by shape x t m (λ (o : Outcome). Within (shape .width) t (lanesOfKind k (o .faults)))
+      (λ e. kinds-within (shape .width) t _ k) (no-faults-within (shape .width) t k)
 
-module _ (W t : ℕ) (kind : ℕ → ℕ) (k i : ℕ) (h : has (faultLanes W t kind k) i ≡ true) where
-  told : (ltb i W && (has t i && eqb (kind i) k)) ≡ true
-  told = sym (has-fault W t kind k i) ∙ h
+  pub fault-apart : Apart (carriedOf shape x t m .faults)
+  unfolding faultsOf
+  fault-apart = carried-by shape x t m (λ (o : Outcome). Apart (o .faults)) (λ e. kinds-apart (shape .width) t _) no-faults-apart
 
-  pub kind-below : i < W
-  kind-below = ltb-true i W (and-left _ (has t i && eqb (kind i) k) told)
-
-  pub kind-executes : has t i ≡ true
-  kind-executes = and-left (has t i) (eqb (kind i) k) (and-right (ltb i W) _ told)
-
-  pub kind-is : kind i ≡ k
-  kind-is = eqb-true (kind i) k (and-right (has t i) (eqb (kind i) k) (and-right (ltb i W) _ told))
-
--- no lane is of two kinds
-pub kinds-apart : (W t : ℕ) (kind : ℕ → ℕ) (k l : ℕ) → (k ≡ l → ⊥) → bitAnd (faultLanes W t kind k) (faultLanes W t kind l) ≡ 0
-kinds-apart W t kind k l n =
-    has-ext (bitAnd (faultLanes W t kind k) (faultLanes W t kind l)) 0
-    (λ i. has-and (faultLanes W t kind k) (faultLanes W t kind l) i
-    ∙ neither (has (faultLanes W t kind k) i) (has (faultLanes W t kind l) i) (λ a b. n (sym (kind-is W t kind k i a) ∙ kind-is W t kind l i b))
-    ∙ sym (has-zero i))
-  where
-    neither : (a b : Bool) → (a ≡ true → b ≡ true → ⊥) → (a && b) ≡ false
-    neither true true f = absurd (f refl refl)
-    neither true false f = refl
-    neither false b f = refl
-
--- ---- the faults of an instruction
-
--- every lane of a set is a lane of the wave that executes
-abbrev pub Within : ℕ → ℕ → ℕ → Type 0
-Within W t set = (i : ℕ) → has set i ≡ true → (i < W) × (has t i ≡ true)
-
-kind-within : (W t : ℕ) (kind : ℕ → ℕ) (k : ℕ) → Within W t (faultLanes W t kind k)
-kind-within W t kind k i h = (kind-below W t kind k i h, kind-executes W t kind k i h)
-
-none-within : (W t : ℕ) → Within W t 0
-none-within W t i h = never (sym (has-zero i) ∙ h)
-
-pub fault-executes : (shape : Shape) (x : Instr) (t : ℕ) (m : Lent) (k : ℕ) → Within (shape .width) t (lanesOfKind k (carriedOf shape x t m .faults))
-unfolding faultsOf
-fault-executes shape x t m k =
-    carried-by shape x t m (λ (o : Outcome). Within W t (lanesOfKind k (o .faults)))
-    (λ e. of-each-kind (λ (j set : ℕ). Within W t set) (faultLanes W t _) (λ j. kind-within W t _ (suc j)) (λ j. none-within W t) k)
-    (of-each-kind (λ (j set : ℕ). Within W t set) (λ j. 0) (λ j. none-within W t) (λ j. none-within W t) k)
-  where
-    W : ℕ
-    W = shape .width
-
--- no lane is of two kinds
-abbrev pub Apart : Faults → Type 0
-Apart f = (k l : ℕ) → (k ≡ l → ⊥) → bitAnd (lanesOfKind k f) (lanesOfKind l f) ≡ 0
-
--- of sets that are apart, number by number
-pub apart-by : (lanes : ℕ → ℕ) → ((k l : ℕ) → (suc k ≡ suc l → ⊥) → bitAnd (lanes (suc k)) (lanes (suc l)) ≡ 0) → Apart (ofKinds lanes)
-apart-by lanes h =
-    of-each-kind (λ (k a : ℕ). (l : ℕ) → (k ≡ l → ⊥) → bitAnd a (lanesOfKind l (ofKinds lanes)) ≡ 0) lanes
-    (λ k.
-    of-each-kind (λ (l b : ℕ). (suc k ≡ l → ⊥) → bitAnd (lanes (suc k)) b ≡ 0) lanes (λ l n. h k l n) (λ l n. and-zero-r (lanes (suc k))))
-    (λ k l n. and-zero-l (lanesOfKind l (ofKinds lanes)))
-
-pub barrier-apart : (lanes : ℕ) → Apart (ofBarrier lanes)
-barrier-apart lanes =
-    apart-by (λ k. cond (eqb k 5) lanes 0)
-    (λ k l n.
-    cond-by (λ (a : ℕ). bitAnd a (cond (eqb (suc l) 5) lanes 0) ≡ 0) (eqb (suc k) 5) lanes 0
-    (λ e.
-    cond-by (λ (b : ℕ). bitAnd lanes b ≡ 0) (eqb (suc l) 5) lanes 0
-    (λ f. absurd (n (eqb-true (suc k) 5 e ∙ sym (eqb-true (suc l) 5 f))))
-    (λ f. and-zero-r lanes))
-    (λ e. and-zero-l (cond (eqb (suc l) 5) lanes 0)))
-
-pub fault-apart : (shape : Shape) (x : Instr) (t : ℕ) (m : Lent) → Apart (carriedOf shape x t m .faults)
-unfolding faultsOf
-fault-apart shape x t m =
-    carried-by shape x t m (λ (o : Outcome). Apart (o .faults))
-    (λ e. apart-by (faultLanes (shape .width) t _) (λ k l n. kinds-apart (shape .width) t _ (suc k) (suc l) n))
-    (apart-by (λ k. 0) (λ k l n. and-zero-l 0))
-
--- the kinds that come together: 1 with 2, 1 with 3, or 4 alone
-pub data Form (f : Faults) : Type 0 where
-  at-device : Only (1 ∷ 2 ∷ []) f → Form f
-  at-local : Only (1 ∷ 3 ∷ []) f → Form f
-  dividing : Only (4 ∷ []) f → Form f
-
-none-only : (ks : List ℕ) → Only ks noFaults
-none-only ks = of-each-kind (λ (k set : ℕ). isIn k ks ≡ false → set ≡ 0) (λ k. 0) (λ k h. refl) (λ k h. refl)
-
-unfaulted : (W t : ℕ) → Form (kindsOf W t (λ i. 0))
-unfaulted W t = subst Form (no-kinds W t (λ i. 0) (λ i b. refl)) (dividing (none-only (4 ∷ [])))
-
-address-only : (s : Space) (W t words : ℕ) (at : ℕ → ℕ) → Only (1 ∷ pastKind s ∷ []) (kindsOf W t (λ i. addressFault s words (at i)))
-address-only s W t words at =
-    of-each-kind (λ (k set : ℕ). isIn k (1 ∷ pastKind s ∷ []) ≡ false → set ≡ 0) (faultLanes W t _)
-    (λ k h.
-    no-other W t words at s k (not-first (suc k) 1 (pastKind s ∷ []) h)
-    (not-first (suc k) (pastKind s) [] (not-rest (suc k) 1 (pastKind s ∷ []) h)))
-    (λ k h. refl)
-
-address-form : (s : Space) (W t words : ℕ) (at : ℕ → ℕ) → Form (kindsOf W t (λ i. addressFault s words (at i)))
-address-form Space.Device W t words at = at-device (address-only Space.Device W t words at)
-address-form Space.Local W t words at = at-local (address-only Space.Local W t words at)
-
-divisor-only : (W t : ℕ) (o : TwoOp) (at : ℕ → ℕ) → Only (4 ∷ []) (kindsOf W t (λ i. divisorFault o (at i)))
-divisor-only W t o at =
-    of-each-kind (λ (k set : ℕ). isIn k (4 ∷ []) ≡ false → set ≡ 0) (faultLanes W t _)
-    (λ k h. none-but-divisors W t o at k (not-first (suc k) 4 [] h)) (λ k h. refl)
+-- an operation that divides, and one that doesn't
+two-form : (divides : Bool) (W t : ℕ) (b : ℕ → ℕ) → Form (kindsOf W t (λ i. cond divides (divisorFault (b i)) 0))
+two-form true W t b = divisor-form W t b
+two-form false W t b = unfaulted-form W t
 
 form-by : (o : Op) (x : Instr) (W t : ℕ) (y : Memories) (a b : ℕ → ℕ) → Form (kindsOf W t (λ i. faultBy o x y (a i) (b i)))
-form-by (Op.Two o) x W t y a b = dividing (divisor-only W t o b)
-form-by (Op.Compare o) x W t y a b = unfaulted W t
-form-by (Op.One o) x W t y a b = unfaulted W t
-form-by Op.Special x W t y a b = unfaulted W t
-form-by Op.Number x W t y a b = unfaulted W t
+form-by (Op.Two o) x W t y a b = two-form (divides o) W t b
+form-by (Op.Compare o) x W t y a b = unfaulted-form W t
+form-by (Op.One o) x W t y a b = unfaulted-form W t
+form-by Op.Special x W t y a b = unfaulted-form W t
+form-by Op.Number x W t y a b = unfaulted-form W t
 form-by (Op.Load s) x W t y a b = address-form s W t (length (memoryOf s y)) (λ i. addressOf (a i) (x .number))
 form-by (Op.Store s) x W t y a b = address-form s W t (length (memoryOf s y)) (λ i. addressOf (a i) (x .number))
 form-by (Op.Atomic o) x W t y a b = address-form Space.Device W t (length (y .device)) a
 form-by Op.Cas x W t y a b = address-form Space.Device W t (length (y .device)) a
-form-by (Op.Control o) x W t y a b = unfaulted W t
+form-by (Op.Control o) x W t y a b = unfaulted-form W t
 
 pub fault-form : (shape : Shape) (x : Instr) (t : ℕ) (m : Lent) → Form (carriedOf shape x t m .faults)
 unfolding faultsOf
 fault-form shape x t m =
     carried-by shape x t m (λ (o : Outcome). Form (o .faults))
     (λ e. form-by (x .op) x (shape .width) t (m .memories) (λ i. getD (operandsOf shape x (m .regs) .a) i 0) (λ i. getD (operandsOf shape x (m .regs) .b) i 0))
-    (dividing (none-only (4 ∷ [])))
+    no-faults-form

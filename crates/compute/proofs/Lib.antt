@@ -4,9 +4,7 @@ pub mod Writing
 pub mod Changing
 pub mod Walking
 pub mod Settling
-pub mod EveryKind
-pub mod FaultKinds
-pub mod Reaching
+pub mod Dividing
 pub mod Standing
 pub mod Arms
 pub mod Carrying

@@ -8,12 +8,14 @@ use lib.ListN.{length}
 use Rattle.lanes.specs.Sets.{widest}
 use Rattle.instructions.specs.declared.instr.Instr.{Instr}
 use Rattle.instructions.specs.Registers.{registersBelow}
+use Rattle.faulting.specs.declared.faults.Faults.{Faults}
+use Rattle.faulting.specs.Kinds.{noFaults, clear}
+use Rattle.faulting.specs.Causes.{kindsOf}
 use Rattle.compute.specs.declared.Shape.{Shape}
-use Rattle.compute.specs.declared.faults.Faults.{Faults}
 use Rattle.compute.specs.declared.Carried.{Carried}
 use Rattle.compute.specs.Operands.{Lent, lent, Operands, operandsOf}
 use Rattle.compute.specs.Values.{resultsOf, targetBy, regsBy, predicateBy, memoriesBy}
-use Rattle.compute.specs.Faulting.{noFaults, kindOf, kindsOf, clear}
+use Rattle.compute.specs.Faulting.{kindOf}
 
 -- the faults, and what was lent as it is afterwards
 pub record Outcome : Type 0 where

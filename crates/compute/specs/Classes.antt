@@ -7,13 +7,15 @@ use Prim.Native.Nat.{ℕ}
 use lib.ListN.{length, getD}
 use Rattle.instructions.specs.declared.instr.TwoOp.{TwoOp}
 use Rattle.instructions.specs.declared.instr.Space.{Space}
+use Rattle.arith.specs.Arith.{divides}
+use Rattle.faulting.specs.declared.faults.Faults.{Faults}
+use Rattle.faulting.specs.Kinds.{noFaults, clear}
+use Rattle.faulting.specs.Causes.{divisorFault, kindsOf, addressFaults}
 use Rattle.compute.specs.declared.Shape.{Shape}
-use Rattle.compute.specs.declared.faults.Faults.{Faults}
 use Rattle.compute.specs.declared.memory.Change.{Change}
 use Rattle.compute.specs.Registers.{byLane, gatherOf, writeLanes}
 use Rattle.compute.specs.Memory.{Memories, memoryOf, addressesOf, changesOf, oldOf}
 use Rattle.compute.specs.Values.{changed}
-use Rattle.compute.specs.Faulting.{kindsOf, addressFault, divisorFault, noFaults, clear}
 use Rattle.compute.specs.Lanewise.{twoLanes, loadLanes, changeTo}
 
 -- the answer is the faults, and what was lent is changed unless a lane faults
@@ -21,12 +23,9 @@ pub record Settled {A : Type 0} (faults : Faults) (changed : A) (answer : Faults
   pub answered : answer ≡ faults
   pub left : after ≡ cond (clear faults) changed before
 
--- the faults of the lanes' addresses, and of their divisors
-abbrev pub addressFaults : Space → ℕ → List ℕ → ℕ → ℕ → Faults
-addressFaults space W at words t = kindsOf W t (λ i. addressFault space words (getD at i 0))
-
-abbrev pub divisorFaults : TwoOp → Shape → List ℕ → ℕ → ℕ → Faults
-divisorFaults o shape regs b t = kindsOf (shape .width) t (λ i. divisorFault o (getD (gatherOf shape regs b) i 0))
+-- the faults of an operation that may divide by the registers b
+abbrev pub dividingFaults : TwoOp → Shape → List ℕ → ℕ → ℕ → Faults
+dividingFaults o shape regs b t = kindsOf (shape .width) t (λ i. cond (divides o) (divisorFault (getD (gatherOf shape regs b) i 0)) 0)
 
 -- results that no fault stops, written to the registers d
 abbrev pub Writes : Shape → ℕ → ℕ → List ℕ → Faults → List ℕ → List ℕ → Type 0
@@ -35,7 +34,7 @@ Writes shape t d results answer before after = Settled noFaults (writeLanes shap
 -- an operation on the registers a and b
 abbrev pub Computes : TwoOp → Shape → ℕ → ℕ → ℕ → ℕ → Faults → List ℕ → List ℕ → Type 0
 Computes o shape t d a b answer before after =
-    Settled (divisorFaults o shape before b t) (writeLanes shape before d t (twoLanes o shape before a b)) answer before after
+    Settled (dividingFaults o shape before b t) (writeLanes shape before d t (twoLanes o shape before a b)) answer before after
 
 -- the addresses that a load or a store reaches
 abbrev pub reached : Shape → List ℕ → ℕ → ℕ → List ℕ

@@ -1,12 +1,12 @@
 -- The memories, words of 32 bits, and what the lanes make of one. Page 01, "One step".
-use Prim.Native.Nat.{ℕ, _/_}
+use Prim.Native.Nat.{ℕ}
 use mathlib.Core.Bool.{cond}
 use mathlib.Core.List.{List}
 use lib.ListN.{getD, set}
 use Rattle.ground.specs.Lists.{inOrder}
 use Rattle.lanes.specs.Sets.{has}
 use Rattle.instructions.specs.declared.instr.Space.{Space}
-use Rattle.arith.specs.Arith.{addressOf}
+use Rattle.arith.specs.Arith.{addressOf, wordOf}
 use Rattle.compute.specs.Registers.{byLane}
 
 -- device and local memory
@@ -25,10 +25,6 @@ memoryOf Space.Local y = y .local
 -- the addresses of a load or a store: base plus offset
 abbrev pub addressesOf : ℕ → List ℕ → ℕ → List ℕ
 addressesOf W bases offset = byLane W (λ i. addressOf (getD bases i 0) offset)
-
--- the number of the word that an address names
-abbrev pub wordOf : ℕ → ℕ
-wordOf address = address / 4
 
 -- the word that lane i's address names
 abbrev pub wordAt : List ℕ → List ℕ → ℕ → ℕ

@@ -10,10 +10,10 @@ use Rattle.instructions.specs.declared.instr.AtomicOp.{AtomicOp}
 use Rattle.instructions.specs.declared.instr.Op.{Op}
 use Rattle.instructions.specs.declared.instr.Space.{Space}
 use Rattle.instructions.specs.declared.instr.Instr.{Instr}
-use Rattle.arith.specs.Arith.{twoOf, oneOf, compareOf, atomicOf, swapOf, addressOf}
+use Rattle.arith.specs.Arith.{twoOf, oneOf, compareOf, atomicOf, swapOf, addressOf, wordOf}
 use Rattle.compute.specs.declared.Shape.{Shape}
 use Rattle.compute.specs.Registers.{byLane, writeLanes}
-use Rattle.compute.specs.Memory.{Memories, memories, memoryOf, addressesOf, wordOf, changesOf, oldOf}
+use Rattle.compute.specs.Memory.{Memories, memories, memoryOf, addressesOf, changesOf, oldOf}
 use Rattle.compute.specs.Operands.{Operands}
 
 -- MOV_SPECIAL: 0 is the lane's number, 1 the wave's number, which is 0, 2 the number of waves, which is 1

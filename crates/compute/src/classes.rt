@@ -1,13 +1,9 @@
 // One class of instructions each, whole: the results of every lane, then the writing, unless a lane faults.
+ghost use mathlib.Core.Path.{_≡_};
 ghost use Rattle.compute.specs.Registers.{Stands, writeLanes};
 ghost use Rattle.compute.specs.Memory.{memories, memoryOf};
-ghost use Rattle.compute.specs.Classes.{Settled, Writes, Computes, Loads, Stores, StoresIn, Changes};
+ghost use Rattle.compute.specs.Classes.{Settled, dividingFaults, Writes, Computes, Loads, Stores, StoresIn, Changes};
 use crate::Shape;
-use crate::faulting::address_faults;
-use crate::faulting::divisor_faults;
-use crate::faults::Faults;
-use crate::faults::is_clear;
-use crate::faults::no_faults;
 use crate::memory::Change;
 use crate::memory::addresses;
 use crate::memory::change_lanes;
@@ -16,6 +12,11 @@ use crate::memory::store_lanes;
 use crate::registers::gather;
 use crate::registers::write_lanes;
 use crate::two_operands::two_results;
+use faulting::addresses::address_faults;
+use faulting::divisors::divisor_faults;
+use faulting::faults::Faults;
+use faulting::faults::is_clear;
+use faulting::faults::no_faults;
 use instructions::instr::Space;
 use instructions::instr::TwoOp;
 use lanes::Lanes;
@@ -54,6 +55,17 @@ pub(crate) fn carry_value(
     write_results(Results { value, faults }, t, rd, shape, regs)
 }
 
+// The faults of the lanes `t` that divide by their registers `rs2`, if `op` divides.
+fn dividing_faults(op: TwoOp, t: Lanes, shape: Shape, regs: &[u32], rs2: u8) -> Faults
+    requires { ⌜ Stands shape (now regs) rs2 ⌝ }
+    ensures { λ r. ⌜ r ≡ dividingFaults op shape (now (regs .entry)) rs2 t ⌝ }
+{
+    if arith::division::divides(op) {
+        return divisor_faults(gather(shape, regs, rs2), t, shape.width);
+    }
+    no_faults()
+}
+
 // An operation on RS1 and RS2: every result and the lanes that divide by zero, then the writing.
 pub(crate) fn carry_two(
     op: TwoOp,
@@ -67,7 +79,7 @@ pub(crate) fn carry_two(
     requires { ⌜ Stands shape (now regs) rd × Stands shape (now regs) rs1 × Stands shape (now regs) rs2 ⌝ }
     ensures { λ r. ⌜ Computes op shape t rd rs1 rs2 r (now (regs .entry)) (now (regs .exit)) ⌝ }
 {
-    let faults = divisor_faults(op, t, shape, regs, rs2);
+    let faults = dividing_faults(op, t, shape, regs, rs2);
     let value = two_results(op, shape, regs, rs1, rs2);
     write_results(Results { value, faults }, t, rd, shape, regs)
 }

@@ -12,10 +12,10 @@ use Rattle.blocks.specs.Scan as blocks
 use Rattle.blocks.specs.OpenAt as places
 use Rattle.wave.specs.Control as control
 use Rattle.wave.specs.declared.state.Block.{Block}
+use Rattle.faulting.specs.Causes.{faultLanes}
 use Rattle.compute.specs.Registers.{slot, byLane, gatherOf, writeLanes}
 use Rattle.compute.specs.Memory.{changesOf}
 use Rattle.compute.specs.Values.{resultsOf, predicateOf}
-use Rattle.compute.specs.Faulting.{faultLanes}
 use Rattle.compute.specs.Carrying.{faultsOf, afterOf, carriedOf}
 use Rattle.replay.specs.Step.{stepOf}
 use Rattle.replay.specs.Run.{runOf}

@@ -9,7 +9,7 @@ use Rattle.ground.proofs.Tests.{true-or-false}
 use Rattle.blocks.specs.declared.structure.Checked.{Checked}
 use Rattle.blocks.specs.declared.structure.Checked.the-variants.{Fine}
 use Rattle.wave.specs.declared.state.State.{State}
-use Rattle.compute.specs.Faulting.{clear}
+use Rattle.faulting.specs.Kinds.{clear}
 use Rattle.replay.specs.declared.settings.Settings.{Settings}
 use Rattle.replay.specs.Machine.{Machine}
 use Rattle.replay.specs.Run.{Ran, endedOf, stepAt, runOf}

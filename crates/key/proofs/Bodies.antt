@@ -20,7 +20,7 @@ use Rattle.body.proofs.Starts.{fits-of, of-starts, length-says, refused-says}
 use Rattle.body.proofs.Written.{length-twos, length-body, parts-back, size-back}
 use Rattle.wave.specs.declared.state.State.{State}
 use Rattle.wave.specs.Layout.{blockNumbers, pathNumbers}
-use Rattle.compute.specs.declared.faults.Faults.{Faults}
+use Rattle.faulting.specs.declared.faults.Faults.{Faults}
 use Rattle.replay.specs.declared.answers.Outcome.{Outcome}
 use Rattle.replay.specs.declared.answers.Replayed.{Replayed}
 use Rattle.key.specs.declared.answer.KeyAnswer.the-variants.{Wrote, Refused}

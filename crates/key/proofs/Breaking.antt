@@ -12,7 +12,7 @@ use Rattle.ground.proofs.Bools.{never}
 use Rattle.ground.proofs.Tests.{false-of}
 use Rattle.body.specs.Body.{Parts, bytesOfBody}
 use Rattle.body.specs.Layout.{fitsLayout, short, notOfLayout}
-use Rattle.compute.specs.declared.faults.Faults.{Faults}
+use Rattle.faulting.specs.declared.faults.Faults.{Faults}
 use Rattle.replay.specs.declared.answers.Outcome.{Outcome}
 use Rattle.replay.specs.declared.answers.Replayed.{Replayed}
 use Rattle.key.specs.declared.answer.KeyAnswer.{KeyAnswer}

@@ -18,9 +18,9 @@ use Rattle.fits.proofs.Keeps.{active-launched}
 use Rattle.wave.proofs.Laying.{length-array}
 use Rattle.fits.proofs.Stays.{path-room}
 use Rattle.fits.proofs.OpenBlocks.{AllSized, path-sized}
-use Rattle.compute.specs.declared.faults.Faults.{Faults}
-use Rattle.compute.specs.Faulting.{lanesOfKind}
-use Rattle.compute.proofs.FaultLanes.{Apart}
+use Rattle.faulting.specs.declared.faults.Faults.{Faults}
+use Rattle.faulting.specs.Kinds.{lanesOfKind}
+use Rattle.faulting.proofs.KindsApart.{Apart}
 use Rattle.replay.specs.declared.settings.Settings.{Settings}
 use Rattle.replay.specs.Machine.{Machine}
 use Rattle.replay.specs.Replay.{mostWords}

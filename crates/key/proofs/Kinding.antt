@@ -14,9 +14,9 @@ use Rattle.numbers.proofs.Numerals.{small-nil, small-cons, small-append}
 use Rattle.numbers.proofs.Placing.{placed-nil}
 use Rattle.numbers.proofs.Behind.{behind, one-number, behind-one}
 use Rattle.body.specs.Body.{twoOf}
-use Rattle.compute.specs.declared.faults.Faults.{Faults}
-use Rattle.compute.specs.Faulting.{Fault, fault, kinds, withLanes, listed, lanesOfKind}
-use Rattle.compute.proofs.EveryKind.{upFrom, table, every-table, few-listed}
+use Rattle.faulting.specs.declared.faults.Faults.{Faults}
+use Rattle.faulting.specs.Kinds.{Fault, fault, kinds, withLanes, listed, lanesOfKind}
+use Rattle.faulting.proofs.EveryKind.{upFrom, table, every-table, few-listed}
 use Rattle.key.specs.Key.{faultOf, kindsOf}
 use Rattle.key.specs.Putting.{kindsPlace, After, after, afterNumbers, noted, kindNumbers}
 

@@ -11,10 +11,10 @@ use lib.Dec.{eqb}
 use Rattle.ground.specs.Tests.{sameList, oneOf, allOf}
 use Rattle.ground.proofs.Bools.{never, and-left, and-right, and-both}
 use Rattle.ground.proofs.Choices.{cond-by}
-use Rattle.compute.specs.declared.faults.Faults.{Faults}
-use Rattle.compute.specs.Faulting.{Fault as KindLanes, fault, kinds, clear, withLanes, listed, lanesOfKind}
-use Rattle.compute.proofs.EveryKind.{upFrom, kindNumbers, table, every-table, none-listed, Only, those, only-listed}
-use Rattle.compute.proofs.FaultLanes.{Apart, at-device, at-local, dividing}
+use Rattle.faulting.specs.declared.faults.Faults.{Faults}
+use Rattle.faulting.specs.Kinds.{Fault as KindLanes, fault, kinds, clear, withLanes, listed, lanesOfKind}
+use Rattle.faulting.proofs.EveryKind.{upFrom, kindNumbers, table, every-table, none-listed, Only, those, only-listed}
+use Rattle.faulting.proofs.KindsApart.{Apart, at-device, at-local, dividing}
 use Rattle.replay.proofs.FaultKinds.{Faulty, at-work, at-barrier}
 use Rattle.body.specs.Body.{Fault}
 use Rattle.body.specs.Layout.{apart, kindLists, faultsFit}

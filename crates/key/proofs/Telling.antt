@@ -3,9 +3,9 @@
 use mathlib.Core.Path.{_≡_, refl, sym, ap, _∙_}
 use mathlib.Core.List.{List, [], _∷_, map}
 use Rattle.wave.specs.declared.state.Block.{Block}
-use Rattle.compute.specs.declared.faults.Faults.{Faults}
-use Rattle.compute.specs.Faulting.{Fault, listed}
-use Rattle.compute.proofs.EveryKind as told
+use Rattle.faulting.specs.declared.faults.Faults.{Faults}
+use Rattle.faulting.specs.Kinds.{Fault, listed}
+use Rattle.faulting.proofs.EveryKind as told
 use Rattle.body.specs.Body.{Fault as Said, Block as SaidBlock}
 use Rattle.key.specs.Key.{faultOf, blockOf, kindsOf}
 

@@ -18,7 +18,7 @@ use Rattle.body.specs.Body.{Parts, numbersOf, bytesOfBody}
 use Rattle.body.specs.Layout.{fitsLayout, isBody, short, notOfLayout}
 use Rattle.body.proofs.Written.{one-body, written-body}
 use Rattle.wave.specs.declared.state.State.{State}
-use Rattle.compute.specs.declared.faults.Faults.{Faults}
+use Rattle.faulting.specs.declared.faults.Faults.{Faults}
 use Rattle.replay.specs.declared.answers.Outcome.{Outcome}
 use Rattle.replay.specs.declared.answers.Replayed.{Replayed}
 use Rattle.key.specs.declared.answer.KeyAnswer.the-variants.{Wrote, Refused}

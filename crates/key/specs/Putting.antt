@@ -11,8 +11,8 @@ use Rattle.numbers.specs.Placed.{placed}
 use Rattle.body.specs.Body.{Parts, twoOf, sixOf, numbersOf, bytesOfBody}
 use Rattle.body.specs.Layout.{mostDepth, faultBytes, blockBytes, headBytes, sizeAt, startsBody, short, notOfLayout}
 use Rattle.wave.specs.declared.state.State.{State}
-use Rattle.compute.specs.declared.faults.Faults.{Faults}
-use Rattle.compute.specs.Faulting.{kinds}
+use Rattle.faulting.specs.declared.faults.Faults.{Faults}
+use Rattle.faulting.specs.Kinds.{kinds}
 use Rattle.key.specs.declared.answer.KeyAnswer.the-variants.{Wrote, Refused}
 use Rattle.key.specs.Key.{kindsOf, blocksOf, Keying, keyed}
 

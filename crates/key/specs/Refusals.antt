@@ -6,7 +6,7 @@ use mathlib.Core.List.{List}
 use lib.ListN.{length}
 use Rattle.body.specs.Body.{bytesOfBody}
 use Rattle.body.specs.Layout.{fitsLayout, short, notOfLayout}
-use Rattle.compute.specs.declared.faults.Faults.{Faults}
+use Rattle.faulting.specs.declared.faults.Faults.{Faults}
 use Rattle.replay.specs.declared.answers.Outcome.{Outcome}
 use Rattle.replay.specs.declared.answers.Replayed.{Replayed}
 use Rattle.key.specs.Key.{partsOf}

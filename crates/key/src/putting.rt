@@ -1,7 +1,7 @@
 // Putting a body's numbers into a buffer, one behind another.
-use compute::faults::Faults;
-use compute::faults::KINDS;
-use compute::faults::lanes_of_kind;
+use faulting::faults::Faults;
+use faulting::faults::KINDS;
+use faulting::faults::lanes_of_kind;
 use lanes::Lanes;
 use numbers::put;
 use wave::state::BLOCK_NUMBERS;

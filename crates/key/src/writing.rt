@@ -5,7 +5,7 @@ use body::BodyAnswer;
 use body::NOT_OF_LAYOUT;
 use body::SHORT;
 use body::body_length;
-use compute::faults::Faults;
+use faulting::faults::Faults;
 use numbers::put_bytes;
 use replay::answers::Outcome;
 use replay::answers::Replayed;

@@ -20,10 +20,10 @@ use Rattle.blocks.specs.Code.{codeOf}
 use Rattle.blocks.specs.Scan.{checkOf}
 use Rattle.blocks.specs.Scan as blocks
 use Rattle.wave.specs.Control as control
+use Rattle.faulting.specs.Causes.{faultLanes}
 use Rattle.compute.specs.Registers.{slot, byLane, gatherOf, writeLanes}
 use Rattle.compute.specs.Memory.{changesOf}
 use Rattle.compute.specs.Values.{resultsOf, predicateOf}
-use Rattle.compute.specs.Faulting.{faultLanes}
 use Rattle.compute.specs.Carrying.{faultsOf, afterOf, carriedOf}
 use Rattle.replay.specs.declared.settings.Settings.{Settings}
 use Rattle.replay.specs.declared.answers.Outcome.{Outcome}

@@ -16,10 +16,11 @@ use Rattle.wave.specs.Wave.{Wave}
 use Rattle.wave.specs.Rules.{barred}
 use Rattle.wave.specs.Control.{faultLanes}
 use Rattle.wave.proofs.Guards.{executing-within}
-use Rattle.compute.specs.declared.faults.Faults.{Faults}
-use Rattle.compute.specs.Faulting.{lanesOfKind}
-use Rattle.compute.proofs.EveryKind.{Only, barrier-only, barrier-lanes}
-use Rattle.compute.proofs.FaultLanes.{Apart, barrier-apart, Form, fault-executes, fault-apart, fault-form}
+use Rattle.faulting.specs.declared.faults.Faults.{Faults}
+use Rattle.faulting.specs.Kinds.{lanesOfKind}
+use Rattle.faulting.proofs.EveryKind.{Only, barrier-only, barrier-lanes}
+use Rattle.faulting.proofs.KindsApart.{Apart, barrier-apart, Form}
+use Rattle.compute.proofs.FaultLanes.{fault-executes, fault-apart, fault-form}
 use Rattle.replay.specs.declared.settings.Settings.{Settings}
 use Rattle.replay.specs.Machine.{Machine}
 use Rattle.replay.specs.Step.{shapeOf, launchedOf, lanesOf, computed, faultsBy, stepOf}

@@ -7,7 +7,7 @@ use mathlib.Core.List.{List}
 use native.Mathlib.Nat.{zero-add, add-assoc}
 use native.Mathlib.Omega.{arith}
 use Rattle.ground.proofs.Tests.{true-or-false}
-use Rattle.compute.specs.Faulting.{clear}
+use Rattle.faulting.specs.Kinds.{clear}
 use Rattle.instructions.specs.declared.instr.Instr.{Instr}
 use Rattle.replay.specs.declared.settings.Settings.{Settings}
 use Rattle.replay.specs.declared.answers.Outcome.{Outcome}

@@ -24,9 +24,9 @@ use Rattle.wave.specs.Control.{controlRule, faultLanes, controlOf}
 use Rattle.wave.specs.Control as ruled
 use Rattle.wave.proofs.Laying.{length-opened}
 use Rattle.wave.proofs.View.{Seen, seen}
-use Rattle.compute.specs.declared.faults.Faults.{Faults}
+use Rattle.faulting.specs.declared.faults.Faults.{Faults}
+use Rattle.faulting.specs.Kinds.{clear, noFaults, ofBarrier}
 use Rattle.compute.specs.Operands.{Lent, lent}
-use Rattle.compute.specs.Faulting.{clear, noFaults, ofBarrier}
 use Rattle.compute.specs.Carrying.{Outcome, outcome, carriedOf}
 use Rattle.compute.proofs.Carrying as carrying
 use Rattle.replay.specs.declared.settings.Settings.{Settings}

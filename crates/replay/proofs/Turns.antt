@@ -6,7 +6,7 @@ use mathlib.Core.List.{List}
 use native.Mathlib.Omega.{arith}
 use native.Mathlib.Nat.{add-zero}
 use lib.ListN.{length}
-use Rattle.compute.specs.Faulting.{clear}
+use Rattle.faulting.specs.Kinds.{clear}
 use Rattle.instructions.specs.declared.instr.Instr.{Instr}
 use Rattle.words.specs.Fetching.{instrAt}
 use Rattle.replay.specs.declared.settings.Settings.{Settings}

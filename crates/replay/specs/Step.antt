@@ -11,9 +11,9 @@ use Rattle.words.specs.Fetching.{controlIn}
 use Rattle.wave.specs.Wave.{Wave}
 use Rattle.wave.specs.Rules.{executingOf, onwardBy}
 use Rattle.wave.specs.Control.{controlRule, faultLanes}
+use Rattle.faulting.specs.declared.faults.Faults.{Faults}
+use Rattle.faulting.specs.Kinds.{clear, ofBarrier}
 use Rattle.compute.specs.declared.Shape.{Shape}
-use Rattle.compute.specs.declared.faults.Faults.{Faults}
-use Rattle.compute.specs.Faulting.{clear, ofBarrier}
 use Rattle.compute.specs.Carrying.{Outcome, carriedOf}
 use Rattle.replay.specs.declared.settings.Settings.{Settings}
 use Rattle.replay.specs.declared.step.StepAnswer.{StepAnswer}

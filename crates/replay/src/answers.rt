@@ -1,5 +1,5 @@
 // What a run answers.
-use compute::faults::Faults;
+use faulting::faults::Faults;
 use wave::state::State;
 
 // A fault has the lanes of each kind; a refusal its number and its place.

@@ -2,7 +2,7 @@
 use crate::answers::Outcome;
 use crate::settings::Settings;
 use crate::step::step;
-use compute::faults::is_clear;
+use faulting::faults::is_clear;
 use lanes::first;
 use lanes::without;
 use wave::state::Hot;

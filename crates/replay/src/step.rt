@@ -2,9 +2,9 @@
 use crate::settings::Settings;
 use compute::Shape;
 use compute::carry_out;
-use compute::faults::Faults;
-use compute::faults::is_clear;
-use compute::faults::of_barrier;
+use faulting::faults::Faults;
+use faulting::faults::is_clear;
+use faulting::faults::of_barrier;
 use instructions::instr::Instr;
 use lanes::Lanes;
 use lanes::first;

@@ -12,7 +12,7 @@ use Rattle.ground.proofs.Bools.{never}
 use Rattle.ground.proofs.Tests.{true-or-false}
 use Rattle.blocks.specs.declared.structure.Checked.{Checked}
 use Rattle.wave.specs.declared.state.State.{State}
-use Rattle.compute.specs.Faulting.{clear}
+use Rattle.faulting.specs.Kinds.{clear}
 use Rattle.compute.specs.Memory.{Memories, memories}
 use Rattle.replay.specs.declared.settings.Settings.{Settings}
 use Rattle.replay.specs.declared.answers.Outcome.{Outcome}

@@ -3,10 +3,10 @@
 use crate::text::put;
 use crate::text::put_decimal;
 use crate::text::put_number;
-use compute::faults::Faults;
-use compute::faults::KINDS;
-use compute::faults::lanes_of_kind;
-use compute::faults::no_faults;
+use faulting::faults::Faults;
+use faulting::faults::KINDS;
+use faulting::faults::lanes_of_kind;
+use faulting::faults::no_faults;
 use instructions::instr::Instr;
 use lanes::Lanes;
 use naming::TEXT_ROOM;

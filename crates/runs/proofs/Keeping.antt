@@ -31,7 +31,7 @@ use Rattle.fits.proofs.AtLane.{PredsFit, fits-lanes, lanes-fit}
 use Rattle.wave.proofs.Guards.{executing-within}
 use Rattle.fits.proofs.Keeps.{active-launched}
 use Rattle.fits.proofs.Stays.{control-keeps, onward-keeps}
-use Rattle.compute.specs.Faulting.{clear}
+use Rattle.faulting.specs.Kinds.{clear}
 use Rattle.compute.proofs.Carrying.{other-bits, length-regs}
 use Rattle.replay.specs.declared.settings.Settings.{Settings}
 use Rattle.replay.specs.Machine.{Machine, named, withNamed}

@@ -20,14 +20,14 @@ use Rattle.instructions.specs.declared.instr.Op.{Op}
 use Rattle.instructions.specs.declared.instr.Space.{Space}
 use Rattle.instructions.specs.declared.instr.Instr.{Instr}
 use Rattle.instructions.specs.Registers.{registersOf}
-use Rattle.arith.specs.Arith.{atomicOf, swapOf, addressOf}
+use Rattle.arith.specs.Arith.{atomicOf, swapOf, addressOf, wordOf}
+use Rattle.faulting.specs.Kinds.{clear}
 use Rattle.compute.specs.declared.Shape.{Shape}
 use Rattle.compute.specs.Registers.{gatherOf}
-use Rattle.compute.specs.Memory.{Memories, memoryOf, addressesOf, wordOf, changeTurn, changesOf, oldOf}
+use Rattle.compute.specs.Memory.{Memories, memoryOf, addressesOf, changeTurn, changesOf, oldOf}
 use Rattle.compute.specs.Operands.{Lent, Operands, operandsBy, operandsOf}
 use Rattle.compute.specs.Values.{Target, register as to-register, predicate as to-predicate}
 use Rattle.compute.specs.Values.{storeTo, atomicTo, swapTo, valueBy, resultsOf, targetBy, regsBy, changed, memoriesBy}
-use Rattle.compute.specs.Faulting.{clear}
 use Rattle.compute.specs.Carrying.{Outcome, inShape, faultsOf, afterOf, carriedOf}
 use Rattle.runs.specs.Results.{register, turnAt, workOf, foundBy, rdOf, rs1Of, rs2Of, rs3Of, reachOf}
 use Rattle.runs.specs.Results.{resultBy, resultOf, Changes, store, atomic, cas}

@@ -16,11 +16,12 @@ use Rattle.words.specs.declared.fetching.ControlIn.{ControlIn}
 use Rattle.words.specs.Fetching.{controlIn}
 use Rattle.words.proofs.Fetches.{control-is}
 use Rattle.wave.specs.Wave.{Preds}
+use Rattle.arith.specs.Arith.{wordOf}
+use Rattle.faulting.specs.Kinds.{clear}
 use Rattle.compute.specs.declared.Shape.{Shape}
-use Rattle.compute.specs.Memory.{memoryOf, wordOf}
+use Rattle.compute.specs.Memory.{memoryOf}
 use Rattle.compute.specs.Operands.{Lent}
 use Rattle.compute.specs.Values.{register as to-register, predicate as to-predicate, nothing as to-nothing, targetBy}
-use Rattle.compute.specs.Faulting.{clear}
 use Rattle.compute.specs.Carrying.{Outcome, inShape}
 use Rattle.runs.specs.Results.{register, rdOf, reachOf, resultOf, Changes}
 use Rattle.compute.proofs.Carrying.{control}

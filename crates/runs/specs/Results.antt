@@ -10,10 +10,10 @@ use Rattle.instructions.specs.declared.instr.AtomicOp.{AtomicOp}
 use Rattle.instructions.specs.declared.instr.Space.{Space}
 use Rattle.instructions.specs.declared.instr.Op.{Op}
 use Rattle.instructions.specs.declared.instr.Instr.{Instr}
-use Rattle.arith.specs.Arith.{twoOf, oneOf, compareOf, atomicOf, swapOf, addressOf}
+use Rattle.arith.specs.Arith.{twoOf, oneOf, compareOf, atomicOf, swapOf, addressOf, wordOf}
 use Rattle.compute.specs.declared.Shape.{Shape}
 use Rattle.compute.specs.Registers.{slotIn}
-use Rattle.compute.specs.Memory.{memoryOf, wordOf}
+use Rattle.compute.specs.Memory.{memoryOf}
 use Rattle.compute.specs.Operands.{Lent}
 use Rattle.compute.specs.Values.{specialOf}
 

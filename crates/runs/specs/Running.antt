@@ -19,8 +19,8 @@ use Rattle.blocks.specs.Scan.{nesting}
 use Rattle.instructions.specs.Registers.{Past}
 use Rattle.wave.specs.Rules.{onBy}
 use Rattle.wave.specs.Ready.{Ready}
+use Rattle.faulting.specs.Kinds.{clear}
 use Rattle.compute.specs.Operands.{Lent, operandsOf}
-use Rattle.compute.specs.Faulting.{clear}
 use Rattle.compute.specs.Carrying.{inShape, havingRead}
 use Rattle.replay.specs.declared.settings.Settings.{Settings}
 use Rattle.replay.specs.Machine.{Machine, named}

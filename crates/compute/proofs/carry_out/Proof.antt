@@ -1,7 +1,7 @@
 -- `compute::carry_out` meets its contract, by what `in_shape` told.
 use mathlib.Core.Path.{sym, ap, _∙_}
 use borrow.Author.Needs.{needs}
-use Rattle.compute.specs.declared.faults.Faults.{Faults}
+use Rattle.faulting.specs.declared.faults.Faults.{Faults}
 use Rattle.compute.specs.Operands.{lent}
 use Rattle.compute.specs.Carrying.{outcome}
 use Rattle.compute.proofs.Carrying.{carried-in, carried-out}

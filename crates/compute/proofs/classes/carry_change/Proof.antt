@@ -6,10 +6,10 @@ use Prim.Native.Nat.{ℕ}
 use lib.ListN.{length}
 use borrow.Author.Needs.{needs}
 use Rattle.instructions.specs.declared.instr.Space.{Space}
+use Rattle.faulting.specs.Causes.{addressFaults}
 use Rattle.compute.specs.Registers.{byLane, gatherOf, writeLanes}
 use Rattle.compute.specs.Memory.{changesOf, oldOf}
 use Rattle.compute.specs.Lanewise.{changeTo}
-use Rattle.compute.specs.Classes.{addressFaults}
 use Rattle.compute.proofs.Settling.{settled-changed, settled-same}
 use Rattle.compute.proofs.classes.carry_change.Statement.{statement}
 use Rattle.compute.proofs.classes.carry_change.Tie as tie

@@ -14,7 +14,7 @@ returns c =
     let v = w .before .before in
     let f = v .before .before in
     let a = f .before .before .before .args in
-    settled-as (w .write-results .ensures) _ _ (f .divisor-faults .ensures)
+    settled-as (w .write-results .ensures) _ _ (f .dividing-faults .ensures)
     (ap (λ (l : List ℕ). writeLanes (a .shape) (a .regs .now) (a .rd) (a .t) l) (v .two-results .ensures))
 
 pub carry-two-spec : {M : Type 1} → statement M

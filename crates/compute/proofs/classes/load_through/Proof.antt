@@ -4,9 +4,9 @@ use mathlib.Core.List.{List}
 use Prim.Native.Nat.{ℕ}
 use lib.ListN.{length}
 use borrow.Author.Needs.{needs}
+use Rattle.faulting.specs.Causes.{addressFaults}
 use Rattle.compute.specs.Registers.{writeLanes}
 use Rattle.compute.specs.Lanewise.{loadLanes}
-use Rattle.compute.specs.Classes.{addressFaults}
 use Rattle.compute.proofs.Settling.{settled-as}
 use Rattle.compute.proofs.classes.load_through.Statement.{statement}
 use Rattle.compute.proofs.classes.load_through.Tie as tie

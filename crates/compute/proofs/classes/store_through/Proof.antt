@@ -4,9 +4,10 @@ use mathlib.Core.List.{List}
 use Prim.Native.Nat.{ℕ}
 use lib.ListN.{length, getD}
 use borrow.Author.Needs.{needs}
+use Rattle.faulting.specs.Causes.{addressFaults}
 use Rattle.compute.specs.Registers.{gatherOf}
 use Rattle.compute.specs.Memory.{changesOf}
-use Rattle.compute.specs.Classes.{addressFaults, reached}
+use Rattle.compute.specs.Classes.{reached}
 use Rattle.compute.proofs.Settling.{settled-changed, settled-same}
 use Rattle.compute.proofs.classes.store_through.Statement.{statement}
 use Rattle.compute.proofs.classes.store_through.Tie as tie

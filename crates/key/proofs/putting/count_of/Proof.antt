@@ -5,7 +5,7 @@ use Prim.Native.Nat.{ℕ, suc, _-_}
 use native.Mathlib.Omega.{arith}
 use lib.Dec.{eqb}
 use borrow.Author.Needs.{needs}
-use Rattle.compute.specs.Faulting.{kinds}
+use Rattle.faulting.specs.Kinds.{kinds}
 use Rattle.key.proofs.Kinding.{Counting, count-none, count-next, count-all}
 use Rattle.key.proofs.putting.count_of.Statement.{statement}
 use Rattle.key.proofs.putting.count_of.Tie as tie

@@ -5,7 +5,7 @@ use native.Mathlib.Omega.{arith}
 use lib.ListN.{length}
 use borrow.Author.Needs.{needs}
 use Rattle.numbers.specs.Numbers.{Small}
-use Rattle.compute.specs.Faulting.{kinds}
+use Rattle.faulting.specs.Kinds.{kinds}
 use Rattle.key.specs.Putting.{afterNumbers, noted}
 use Rattle.key.proofs.Kinding.{Kept, kept-none, kept-place, kept-next, kept-all}
 use Rattle.key.proofs.putting.put_kinds.Statement.{statement}

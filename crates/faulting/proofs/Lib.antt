@@ -1,0 +1,6 @@
+pub mod EveryKind
+pub mod FaultKinds
+pub mod Marking
+pub mod Reaching
+pub mod KindsApart
+pub mod OneAnswer
