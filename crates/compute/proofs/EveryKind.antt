@@ -10,8 +10,9 @@ use lib.ListN.{length, getD}
 use borrow.Author.Tests.{eq-eqb, eqb-true, ne-eqb}
 use Rattle.ground.proofs.Bools.{never}
 use Rattle.ground.proofs.Choices.{cond-by}
+use Rattle.lanes.specs.declared.said.Fault.{Fault}
 use Rattle.compute.specs.declared.faults.Faults.{Faults}
-use Rattle.compute.specs.Faulting.{Fault, fault, kinds, every, ofKinds, ofBarrier, noLanes, clear, withLanes, listed, lanesIn, lanesOfKind}
+use Rattle.compute.specs.Faulting.{fault, kinds, every, ofKinds, ofBarrier, noLanes, clear, withLanes, listed, lanesIn, lanesOfKind}
 
 -- ---- the kinds' numbers
 

@@ -5,6 +5,7 @@ use mathlib.Core.List.{List, [], _∷_}
 use lib.Dec.{eqb, leb}
 use lib.ListN.{length, getD}
 use Rattle.lanes.specs.Sets.{has, setOf}
+use Rattle.lanes.specs.declared.said.Fault.{Fault}
 use Rattle.instructions.specs.declared.instr.TwoOp.{TwoOp}
 use Rattle.instructions.specs.declared.instr.Op.{Op}
 use Rattle.instructions.specs.declared.instr.Space.{Space}
@@ -58,10 +59,6 @@ kindOf x y v i = faultBy (x .op) x y (getD (v .a) i 0) (getD (v .b) i 0)
 -- ---- every kind
 
 -- a kind with its lanes
-pub record Fault : Type 0 where
-  pub kind : ℕ
-  pub lanes : ℕ
-
 abbrev pub fault : ℕ → ℕ → Fault
 fault kind lanes = record { kind = kind; lanes = lanes }
 
