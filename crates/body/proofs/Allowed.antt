@@ -14,7 +14,7 @@ use Rattle.ground.specs.Tests.{sameList, oneOf, allOf}
 use Rattle.ground.proofs.Bools.{and-left, and-right}
 use Rattle.ground.proofs.Tests.{false-of, one-all}
 use Rattle.numbers.specs.Numbers.{numberAt}
-use Rattle.body.specs.Body.{Fault}
+use Rattle.lanes.specs.declared.said.Fault.{Fault}
 use Rattle.body.specs.Layout.{mostKinds, kindLists, apart, faultsFit, each, faultAt, countAt, partsAt}
 use Rattle.body.proofs.Each.{length-each}
 

@@ -16,7 +16,8 @@ use Rattle.ground.proofs.Tests.{false-of, true-or-false}
 use Rattle.numbers.specs.Numbers.{numberAt}
 use Rattle.numbers.proofs.Numerals.{number-append}
 use Rattle.body.specs.declared.BodyAnswer.the-variants.{Length, Refused}
-use Rattle.body.specs.Body.{Fault, Parts}
+use Rattle.lanes.specs.declared.said.Fault.{Fault}
+use Rattle.body.specs.Body.{Parts}
 use Rattle.body.specs.Layout.{shortest, longest, lastPlace, mostDepth, mostKinds, beforePart, loopPart, kindLists, apart, faultsFit, blockFits, fitsLayout}
 use Rattle.body.specs.Layout.{each, faultAt, blockAt, countAt, headSize, depthAt, sizeAt, partsAt, startsBody, isBody, bodyAnswer, notOfLayout}
 use Rattle.body.proofs.Each.{length-each, each-same}

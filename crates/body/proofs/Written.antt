@@ -8,7 +8,9 @@ use lib.ListN.{length, drop, length-append, drop-of-length-le}
 use Rattle.numbers.specs.Numbers.{bound, bytesOfAll, numberAt, Bytes, Small}
 use Rattle.numbers.proofs.Numerals.{number-small, length-bytesOfAll, small-nil, small-cons, small-append}
 use Rattle.numbers.proofs.Numerals.{Stand, stand-nth, stand-rest, Holds, holds-none, holds-next, holds-join}
-use Rattle.body.specs.Body.{Fault, Block, Parts, twoOf, sixOf, numbersOf, bytesOfBody}
+use Rattle.lanes.specs.declared.said.Block.{Block}
+use Rattle.lanes.specs.declared.said.Fault.{Fault}
+use Rattle.body.specs.Body.{Parts, twoOf, sixOf, numbersOf, bytesOfBody}
 use Rattle.body.specs.Layout.{fitsLayout, each, faultAt, blockAt, countAt, headSize, depthAt, sizeAt, partsAt, isBody}
 use Rattle.body.proofs.Each.{length-each}
 use Rattle.body.proofs.Starts.{fits-of, of-fits, starts-body, body-starts, size-eq}

@@ -7,7 +7,9 @@ use lib.Bits.{bitAnd}
 use lib.ListN.{length, drop}
 use Rattle.ground.specs.Tests.{oneOf, allOf}
 use Rattle.numbers.specs.Numbers.{numberAt}
-use Rattle.body.specs.Body.{Fault, Block, Parts}
+use Rattle.lanes.specs.declared.said.Block.{Block}
+use Rattle.lanes.specs.declared.said.Fault.{Fault}
+use Rattle.body.specs.Body.{Parts}
 use Rattle.body.specs.declared.BodyAnswer.{BodyAnswer}
 use Rattle.body.specs.declared.BodyAnswer.the-variants.{Length, Refused}
 

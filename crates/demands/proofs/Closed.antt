@@ -11,8 +11,8 @@ use Rattle.blocks.specs.Item.{itemAt}
 use Rattle.blocks.specs.Scan as blocks
 use Rattle.blocks.specs.OpenAt as places
 use Rattle.wave.specs.Control as control
-use Rattle.wave.specs.declared.state.Block.{Block}
 use Rattle.faulting.specs.Causes.{faultLanes}
+use Rattle.lanes.specs.declared.said.Block.{Block}
 use Rattle.compute.specs.Registers.{slot, byLane, gatherOf, writeLanes}
 use Rattle.compute.specs.Memory.{changesOf}
 use Rattle.compute.specs.Values.{resultsOf, predicateOf}

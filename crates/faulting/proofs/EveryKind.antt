@@ -11,7 +11,8 @@ use borrow.Author.Tests.{eq-eqb, eqb-true, ne-eqb}
 use Rattle.ground.proofs.Bools.{never}
 use Rattle.ground.proofs.Choices.{cond-by}
 use Rattle.faulting.specs.declared.faults.Faults.{Faults}
-use Rattle.faulting.specs.Kinds.{Fault, fault, kinds, every, ofKinds, ofBarrier, noLanes, clear, withLanes, listed, lanesAmong, lanesOfKind}
+use Rattle.faulting.specs.Kinds.{fault, kinds, every, ofKinds, ofBarrier, noLanes, clear, withLanes, listed, lanesAmong, lanesOfKind}
+use Rattle.lanes.specs.declared.said.Fault.{Fault}
 
 -- ---- the kinds' numbers
 

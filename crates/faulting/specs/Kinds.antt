@@ -3,14 +3,11 @@ use Prim.Native.Nat.{ℕ}
 use mathlib.Core.Bool.{Bool, true, _&&_, cond}
 use mathlib.Core.List.{List, [], _∷_}
 use lib.Dec.{eqb}
+use Rattle.lanes.specs.declared.said.Fault.{Fault}
 use Rattle.instructions.specs.declared.instr.Space.{Space}
 use Rattle.faulting.specs.declared.faults.Faults.{Faults}
 
 -- a kind with its lanes
-pub record Fault : Type 0 where
-  pub kind : ℕ
-  pub lanes : ℕ
-
 abbrev pub fault : ℕ → ℕ → Fault
 fault kind lanes = record { kind = kind; lanes = lanes }
 

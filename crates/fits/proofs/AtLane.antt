@@ -9,7 +9,7 @@ use native.Mathlib.Omega.{arith}
 use native.Mathlib.Decide.{decLt}
 use Rattle.lanes.specs.Sets.{bit, first}
 use Rattle.lanes.proofs.Bits.{bit-le, bit-zero, first-below, first-past, set-ext}
-use Rattle.wave.specs.declared.state.Block.{Block}
+use Rattle.lanes.specs.declared.said.Block.{Block}
 use Rattle.wave.specs.Wave.{Wave, Preds}
 use Rattle.wave.specs.Rules.{isLoop}
 use Rattle.fits.specs.Fits.{count, asides, marks, predicates, Unions, Quiet, SetsFit}

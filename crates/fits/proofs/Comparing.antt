@@ -19,7 +19,7 @@ use Rattle.blocks.specs.OpenAt.{Found, nowhere, there, openAt, shown, filled, n
 use Rattle.blocks.proofs.Widths.{code-fits}
 use Rattle.blocks.proofs.Openers.{at-most}
 use Rattle.blocks.proofs.Stacks.{length-filled}
-use Rattle.wave.specs.declared.state.Block.{Block}
+use Rattle.lanes.specs.declared.said.Block.{Block}
 use Rattle.wave.specs.declared.state.Hot.{Hot}
 use Rattle.wave.specs.Layout.{opened}
 use Rattle.wave.specs.Wave.{waveOf, predsOf}

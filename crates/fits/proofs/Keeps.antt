@@ -13,7 +13,7 @@ use Rattle.instructions.specs.declared.instr.ControlOp.{ControlOp}
 use Rattle.instructions.specs.declared.instr.ControlOp.the-variants.{If, Else, Endif, Loop, Break, Continue, Endloop, Halt, Barrier, Nop}
 use Rattle.lanes.specs.Sets.{bit, first}
 use Rattle.lanes.proofs.Bits.{bit-le, bit-zero, bit-and, bit-or, bit-without, set-ext}
-use Rattle.wave.specs.declared.state.Block.{Block}
+use Rattle.lanes.specs.declared.said.Block.{Block}
 use Rattle.blocks.specs.Scan.{nesting}
 use Rattle.wave.specs.Wave.{Wave, Preds, launch, clear}
 use Rattle.wave.specs.Rules.{

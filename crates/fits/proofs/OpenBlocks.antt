@@ -13,7 +13,7 @@ use Rattle.blocks.specs.Scan.{Part, before, after, looping, Open, open-at}
 use Rattle.blocks.specs.OpenAt.{Found, nowhere, there, openAt, part-number}
 use Rattle.blocks.proofs.Widths.{code-fits}
 use Rattle.blocks.proofs.Openers.{EachOpened, each-opened}
-use Rattle.wave.specs.declared.state.Block.{Block}
+use Rattle.lanes.specs.declared.said.Block.{Block}
 use Rattle.wave.specs.Wave.{Wave, Preds}
 use Rattle.wave.specs.Layout.{beforeElse, loopPart}
 use Rattle.wave.specs.Rules.{isLoop}

@@ -19,7 +19,7 @@ use Rattle.blocks.proofs.Widths.{code-fits}
 use Rattle.blocks.proofs.Induction.{found-within}
 use Rattle.blocks.proofs.Nested.{opened-room, opened-if, passes-if}
 use Rattle.blocks.proofs.Instructions.{instruction-there}
-use Rattle.wave.specs.declared.state.Block.{Block}
+use Rattle.lanes.specs.declared.said.Block.{Block}
 use Rattle.wave.specs.declared.state.Hot.{Hot}
 use Rattle.wave.specs.Layout.{opened}
 use Rattle.wave.specs.Wave.{Wave, waveOf, predsOf}

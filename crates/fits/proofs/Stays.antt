@@ -24,7 +24,7 @@ use Rattle.blocks.proofs.Widths.{code-fits}
 use Rattle.blocks.proofs.Induction.{open-at-start}
 use Rattle.blocks.proofs.Openers.{at-most, EachOpened, each-opened}
 use Rattle.blocks.proofs.Theorems.{Allowed, allowed}
-use Rattle.wave.specs.declared.state.Block.{Block}
+use Rattle.lanes.specs.declared.said.Block.{Block}
 use Rattle.wave.specs.Wave.{Wave, Preds, launch, clear, stateOf}
 use Rattle.wave.specs.Rules.{onBy, next, leave, broken, continued, toLoop, isLoop, onwardBy, elseOn, endifOn, endloopOn, barred, onward}
 use Rattle.wave.specs.Control.{controlRule}

@@ -1,9 +1,9 @@
 // Whether the sets of a handed-in state fit.
 use lanes::Lanes;
+use lanes::said::Block;
 use wave::state::AGAIN;
 use wave::state::ASIDE;
 use wave::state::BLOCK_NUMBERS;
-use wave::state::Block;
 use wave::state::ENTERED;
 use wave::state::Hot;
 use wave::state::LEFT;

@@ -1,7 +1,7 @@
 -- The open blocks of a wave that fits, in a body: their numbers are below 2^32, and they are blocks of the layout.
 use mathlib.Core.Path.{_≡_, refl, ap, _∙_}
 use mathlib.Core.Bool.{Bool, true, false}
-use mathlib.Core.List.{List, [], _∷_, map, reverse, reverse-cons, map-append}
+use mathlib.Core.List.{List, [], _∷_, reverse, reverse-cons}
 use Prim.Native.Nat.{ℕ, _-_, _*_, _≤_}
 use native.Mathlib.Omega.{arith}
 use borrow.Author.Tests.{le-leb}
@@ -12,12 +12,11 @@ use Rattle.ground.proofs.Tests.{all-append}
 use Rattle.numbers.specs.Numbers.{Small}
 use Rattle.numbers.proofs.Numerals.{small-cons, small-take, small-replicate}
 use Rattle.body.specs.Layout.{lastPlace, beforePart, loopPart, blockFits}
-use Rattle.wave.specs.declared.state.Block.{Block}
+use Rattle.lanes.specs.declared.said.Block.{Block}
 use Rattle.wave.specs.Layout.{blockNumbers, pathNumbers, six, laid, arrayOf}
 use Rattle.wave.specs.Rules.{isLoop}
 use Rattle.fits.proofs.OpenBlocks.{Sized, AllSized}
 use Rattle.replay.specs.Replay.{mostWords}
-use Rattle.key.specs.Key.{blockOf}
 
 module _ (words : ℕ) (short : words ≤ mostWords) where
   -- ---- in numbers of four bytes
@@ -42,7 +41,7 @@ module _ (words : ℕ) (short : words ≤ mostWords) where
 
   -- ---- of the layout
 
-  block-fits : (b : Block) → Sized words b → (l : Bool) → isLoop b ≡ l → blockFits (blockOf b) ≡ true
+  block-fits : (b : Block) → Sized words b → (l : Bool) → isLoop b ≡ l → blockFits b ≡ true
   unfolding blockFits
   block-fits b s true e =
       rw (le-leb (b .opener) lastPlace (omega (arith, s .opener)), le-leb beforePart (b .part) (s .some), le-leb (b .part) loopPart (s .few), e)
@@ -55,11 +54,10 @@ module _ (words : ℕ) (short : words ≤ mostWords) where
         s .quiet e,
       )
 
-  pub all-fit : (p : List Block) → AllSized words p → allOf blockFits (map blockOf (reverse p)) ≡ true
+  pub all-fit : (p : List Block) → AllSized words p → allOf blockFits (reverse p) ≡ true
   unfolding allOf
   all-fit [] s = refl
   all-fit (b ∷ p) s =
-      ap (λ (q : List Block). allOf blockFits (map blockOf q)) (reverse-cons b p)
-      ∙ ap (allOf blockFits) (map-append blockOf (reverse p) (b ∷ []))
-      ∙ all-append blockFits (map blockOf (reverse p)) (blockOf b ∷ []) (all-fit p (s .1))
-      (and-both (blockFits (blockOf b)) true (block-fits b (s .0) (isLoop b) refl) refl)
+      ap (allOf blockFits) (reverse-cons b p)
+      ∙ all-append blockFits (reverse p) (b ∷ []) (all-fit p (s .1))
+      (and-both (blockFits b) true (block-fits b (s .0) (isLoop b) refl) refl)

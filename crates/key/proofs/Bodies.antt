@@ -21,12 +21,13 @@ use Rattle.body.proofs.Written.{length-twos, length-body, parts-back, size-back
 use Rattle.wave.specs.declared.state.State.{State}
 use Rattle.wave.specs.Layout.{blockNumbers, pathNumbers}
 use Rattle.faulting.specs.declared.faults.Faults.{Faults}
+use Rattle.faulting.specs.Kinds.{listed}
+use Rattle.faulting.proofs.EveryKind.{few-listed}
 use Rattle.replay.specs.declared.answers.Outcome.{Outcome}
 use Rattle.replay.specs.declared.answers.Replayed.{Replayed}
 use Rattle.key.specs.declared.answer.KeyAnswer.the-variants.{Wrote, Refused}
-use Rattle.key.specs.Key.{kindsOf, partsOf, keyed, bodyKey, outcomeKey, keyOf}
+use Rattle.key.specs.Key.{partsOf, keyed, bodyKey, outcomeKey, keyOf}
 use Rattle.key.specs.Putting.{room, kindsPlace, kindsEnd, After, after, afterNumbers, kindNumbers, headNumbers, stateNumbers, Put, copied}
-use Rattle.key.proofs.Kinding.{few-kinds}
 use Rattle.key.proofs.Paths.{block-numbers, length-blocks}
 
 -- ---- put piece by piece
@@ -34,24 +35,24 @@ use Rattle.key.proofs.Paths.{block-numbers, length-blocks}
 -- kernel number, place and kinds
 module _ (kernel place : ℕ) (f : Faults) where
   pub head-stands : (o o₁ o₂ o₃ o₄ : List ℕ) (count at : ℕ) → o₁ ≡ placed o 0 (bytesOf kernel) → o₂ ≡ placed o₁ 4 (bytesOf place)
-      → count ≡ length (kindsOf f) → o₃ ≡ placed o₂ 8 (bytesOf count) → after at o₄ ≡ afterNumbers (kindNumbers f) kindsPlace o₃
+      → count ≡ length (listed f) → o₃ ≡ placed o₂ 8 (bytesOf count) → after at o₄ ≡ afterNumbers (kindNumbers f) kindsPlace o₃
       → after at o₄ ≡ afterNumbers (headNumbers kernel place f) 0 o
   unfolding afterNumbers headNumbers
   head-stands o o₁ o₂ o₃ o₄ count at e1 e2 ec e3 e4 =
       let kinds = kindNumbers f in
       let p : at ≡ kindsPlace + 4 * length kinds = ap (λ (z : After). z .place) e4 in
       let c3 = e3 ∙ ap (λ (n : ℕ). placed o₂ 8 (bytesOf n)) ec in
-      let h3 = behind-one (length (kindsOf f)) kinds o₂ o₃ o₄ 8 12 refl c3 (ap (λ (z : After). z .out) e4) in
-      let h2 = behind-one place (length (kindsOf f) ∷ kinds) o₁ o₂ o₄ 4 8 refl e2 h3 in
-      ap₂ after (omega (arith, p)) (behind-one kernel (place ∷ length (kindsOf f) ∷ kinds) o o₁ o₄ 0 4 refl e1 h2)
+      let h3 = behind-one (length (listed f)) kinds o₂ o₃ o₄ 8 12 refl c3 (ap (λ (z : After). z .out) e4) in
+      let h2 = behind-one place (length (listed f) ∷ kinds) o₁ o₂ o₄ 4 8 refl e2 h3 in
+      ap₂ after (omega (arith, p)) (behind-one kernel (place ∷ length (listed f) ∷ kinds) o o₁ o₄ 0 4 refl e1 h2)
 
   pub head-small : kernel < bound → place < bound → Small (kindNumbers f) → Small (headNumbers kernel place f)
   unfolding headNumbers
-  head-small k p fs = small-cons kernel _ k (small-cons place _ p (small-cons (length (kindsOf f)) _ (omega (arith, few-kinds f)) fs))
+  head-small k p fs = small-cons kernel _ k (small-cons place _ p (small-cons (length (listed f)) _ (omega (arith, few-listed f)) fs))
 
   pub head-place : (o o₁ : List ℕ) (at : ℕ) → after at o₁ ≡ afterNumbers (headNumbers kernel place f) 0 o → at ≤ kindsEnd
   unfolding afterNumbers headNumbers kindNumbers
-  head-place o o₁ at e = omega (arith, ap (λ (z : After). z .place) e, length-twos (kindsOf f), few-kinds f)
+  head-place o o₁ at e = omega (arith, ap (λ (z : After). z .place) e, length-twos (listed f), few-listed f)
 
 -- the sets, the depth and the blocks
 module _ (s : State) (low : s .hot .depth ≤ mostDepth) (long : length (s .blocks) ≡ pathNumbers) where
@@ -94,7 +95,7 @@ module _ (kernel : ℕ) (f : Faults) (s : State) where
 -- there is room for it
 pub body-room : (kernel : ℕ) (f : Faults) (s : State) → s .hot .depth ≤ mostDepth → length (bytesOfBody (partsOf kernel f s)) ≤ room
 unfolding partsOf
-body-room kernel f s low = omega (arith, length-body (partsOf kernel f s), few-kinds f, length-blocks s)
+body-room kernel f s low = omega (arith, length-body (partsOf kernel f s), few-listed f, length-blocks s)
 
 -- a depth over 32 gives no body
 pub deep-key : (kernel : ℕ) (f : Faults) (s : State) (out : List ℕ) → mostDepth < s .hot .depth

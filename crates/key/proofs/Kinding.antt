@@ -2,22 +2,22 @@
 use mathlib.Core.Path.{_≡_, refl, sym, ap, ap₂, _∙_, subst}
 use Prim.Native.Nat.{ℕ, zero, suc, _+_, _-_, _*_, _≤_, _<_}
 use mathlib.Core.Bool.{Bool, true, false, cond}
-use mathlib.Core.List.{List, [], _∷_, _++_, append-nil, append-assoc, map, flatMap}
+use mathlib.Core.List.{List, [], _∷_, _++_, append-nil, append-assoc, flatMap}
 use native.Mathlib.Numerals.{add-one}
 use native.Mathlib.Omega.{arith}
 use borrow.Author.Tests.{eq-eqb, ne-eqb}
 use lib.Dec.{eqb}
-use lib.ListN.{length, length-append, length-map}
+use lib.ListN.{length, length-append}
 use Rattle.numbers.specs.Numbers.{bytesOf, bytesOfAll, bound, Small}
 use Rattle.numbers.specs.Placed.{placed}
 use Rattle.numbers.proofs.Numerals.{small-nil, small-cons, small-append}
 use Rattle.numbers.proofs.Placing.{placed-nil}
 use Rattle.numbers.proofs.Behind.{behind, one-number, behind-one}
 use Rattle.body.specs.Body.{twoOf}
+use Rattle.lanes.specs.declared.said.Fault.{Fault}
 use Rattle.faulting.specs.declared.faults.Faults.{Faults}
-use Rattle.faulting.specs.Kinds.{Fault, fault, kinds, withLanes, listed, lanesOfKind}
-use Rattle.faulting.proofs.EveryKind.{upFrom, table, every-table, few-listed}
-use Rattle.key.specs.Key.{faultOf, kindsOf}
+use Rattle.faulting.specs.Kinds.{fault, kinds, withLanes, listed, lanesOfKind}
+use Rattle.faulting.proofs.EveryKind.{upFrom, table, every-table}
 use Rattle.key.specs.Putting.{kindsPlace, After, after, afterNumbers, noted, kindNumbers}
 
 -- ---- the kinds from k on
@@ -32,60 +32,54 @@ from-next f k h =
 
 -- ---- the count
 
-count-test : (t : Bool) (f : Fault) (rest : List Fault) → length (map faultOf (cond t rest (f ∷ rest))) ≡ cond t 0 1 + length (map faultOf rest)
+count-test : (t : Bool) (f : Fault) (rest : List Fault) → length (cond t rest (f ∷ rest)) ≡ cond t 0 1 + length (rest)
 count-test true f rest = omega arith
 count-test false f rest = omega arith
-
--- at most every kind
-pub few-kinds : (f : Faults) → length (kindsOf f) ≤ kinds
-unfolding kindsOf
-few-kinds f = omega (arith, length-map (listed f) faultOf, few-listed f)
 
 -- kinds are counted up to k, and those from k on are left
 pub record Counting (f : Faults) (count k : ℕ) : Type 0 where
   pub least : 1 ≤ k
   pub most : k ≤ suc kinds
   pub below : count < k
-  pub left : count + length (map faultOf (withLanes (from k f))) ≡ length (kindsOf f)
+  pub left : count + length (withLanes (from k f)) ≡ length (listed f)
 
 pub count-none : (f : Faults) → Counting f 0 1
-unfolding kindsOf
 count-none f =
     record {
       least = omega arith;
       most = omega arith;
       below = omega arith;
-      left = omega (arith, ap (λ (xs : List Fault). length (map faultOf (withLanes xs))) (every-table f));
+      left = omega (arith, ap (λ (xs : List Fault). length (withLanes xs)) (every-table f));
     }
 
 pub count-next : (f : Faults) (count k one : ℕ) → Counting f count k → k ≤ kinds → one ≡ cond (eqb (lanesOfKind k f) 0) 0 1 → one ≤ 1
     → Counting f (count + one) (k + 1)
 count-next f count k one c h e o =
-    let n = ap (λ (xs : List Fault). length (map faultOf (withLanes xs))) (from-next f k h) in
+    let n = ap (λ (xs : List Fault). length (withLanes xs)) (from-next f k h) in
     let t = count-test (eqb (lanesOfKind k f) 0) (fault k (lanesOfKind k f)) (withLanes (from (suc k) f)) in
     let b = c .below in
     let w = c .left in
     rw add-one
     (record { least = omega arith; most = omega arith; below = omega arith; left = omega (arith, n, t, e, w) })
 
-pub count-all : (f : Faults) (count k : ℕ) → Counting f count k → kinds < k → count ≡ length (kindsOf f)
+pub count-all : (f : Faults) (count k : ℕ) → Counting f count k → kinds < k → count ≡ length (listed f)
 count-all f count k c h =
     let e : k ≡ suc kinds = omega (arith, c .most) in
-    let w : count + length (map faultOf (withLanes (from (suc kinds) f))) ≡ length (kindsOf f) =
-    subst (λ (j : ℕ). count + length (map faultOf (withLanes (from j f))) ≡ length (kindsOf f)) e (c .left) in
+    let w : count + length (withLanes (from (suc kinds) f)) ≡ length (listed f) =
+    subst (λ (j : ℕ). count + length (withLanes (from j f)) ≡ length (listed f)) e (c .left) in
     omega (arith, w)
 
 -- ---- the numbers
 
-numbers-test : (t : Bool) (k l : ℕ) (rest : List Fault) → flatMap twoOf (map faultOf (cond t rest (record { kind = k; lanes = l } ∷ rest)))
-    ≡ cond t [] (k ∷ l ∷ []) ++ flatMap twoOf (map faultOf rest)
+numbers-test : (t : Bool) (k l : ℕ) (rest : List Fault) → flatMap twoOf (cond t rest (record { kind = k; lanes = l } ∷ rest))
+    ≡ cond t [] (k ∷ l ∷ []) ++ flatMap twoOf (rest)
 unfolding flatMap twoOf
 numbers-test true k l rest = refl
 numbers-test false k l rest = refl
 
 -- the numbers of a kind, and then those of the rest
 numbers-with : (k l : ℕ) (rest : List Fault)
-    → flatMap twoOf (map faultOf (withLanes (fault k l ∷ rest))) ≡ noted k l ++ flatMap twoOf (map faultOf (withLanes rest))
+    → flatMap twoOf (withLanes (fault k l ∷ rest)) ≡ noted k l ++ flatMap twoOf (withLanes rest)
 unfolding noted
 numbers-with k l rest = numbers-test (eqb l 0) k l (withLanes rest)
 
@@ -129,7 +123,7 @@ unfolding noted
 small-noted k l a b = small-test (eqb l 0) k l a b
 
 small-table : (lanes : ℕ → ℕ) → ((k : ℕ) → lanes k < bound) → (n c : ℕ) → n + c ≤ bound
-    → Small (flatMap twoOf (map faultOf (withLanes (table lanes (upFrom n c)))))
+    → Small (flatMap twoOf (withLanes (table lanes (upFrom n c))))
 unfolding flatMap
 small-table lanes h n zero b = small-nil
 small-table lanes h n (suc c) b =
@@ -138,9 +132,9 @@ small-table lanes h n (suc c) b =
 
 -- where the lanes of every kind are below 2^32
 pub small-kinds : (f : Faults) → ((k : ℕ) → lanesOfKind k f < bound) → Small (kindNumbers f)
-unfolding kindNumbers kindsOf
+unfolding kindNumbers
 small-kinds f h =
-    subst (λ (xs : List Fault). Small (flatMap twoOf (map faultOf (withLanes xs)))) (sym (every-table f))
+    subst (λ (xs : List Fault). Small (flatMap twoOf (withLanes xs))) (sym (every-table f))
     (small-table (λ k. lanesOfKind k f) h 1 kinds (omega arith))
 
 -- ---- the kinds below k have been put, and the loop stands behind them
@@ -152,10 +146,10 @@ pub record Kept (f : Faults) (o₀ o : List ℕ) (at k : ℕ) : Type 0 where
   pub few : length done ≤ 2 * (k - 1)
   pub small : Small done
   pub stands : after at o ≡ afterNumbers done kindsPlace o₀
-  pub whole : done ++ flatMap twoOf (map faultOf (withLanes (from k f))) ≡ kindNumbers f
+  pub whole : done ++ flatMap twoOf (withLanes (from k f)) ≡ kindNumbers f
 
 pub kept-none : (f : Faults) (o : List ℕ) → Kept f o o kindsPlace 1
-unfolding kindNumbers kindsOf noted
+unfolding kindNumbers noted
 kept-none f o =
     record {
       least = omega arith;
@@ -164,7 +158,7 @@ kept-none f o =
       few = omega arith;
       small = small-nil;
       stands = no-kind 1 0 kindsPlace o refl;
-      whole = ap (λ (xs : List Fault). flatMap twoOf (map faultOf (withLanes xs))) (sym (every-table f));
+      whole = ap (λ (xs : List Fault). flatMap twoOf (withLanes xs)) (sym (every-table f));
     }
 
 pub kept-place : {f : Faults} {o₀ o : List ℕ} {at k : ℕ} → Kept f o₀ o at k → at ≤ kindsPlace + 8 * (k - 1)
@@ -181,7 +175,7 @@ kept-next f o₀ o o₁ at at₁ k h b e s =
     let w = length-append (h .done) n in
     let d = h .few in
     let m = h .least in
-    let rest = flatMap twoOf (map faultOf (withLanes (from (suc k) f))) in
+    let rest = flatMap twoOf (withLanes (from (suc k) f)) in
     rw add-one
     (record {
       least = omega arith;
@@ -193,7 +187,7 @@ kept-next f o₀ o o₁ at at₁ k h b e s =
       whole =
           append-assoc (h .done) n rest
           ∙ ap (λ (r : List ℕ). h .done ++ r) (sym (numbers-with k l (from (suc k) f)))
-          ∙ ap (λ (xs : List Fault). h .done ++ flatMap twoOf (map faultOf (withLanes xs))) (sym (from-next f k b))
+          ∙ ap (λ (xs : List Fault). h .done ++ flatMap twoOf (withLanes xs)) (sym (from-next f k b))
           ∙ h .whole;
     })
 
@@ -204,6 +198,6 @@ kept-all f o₀ o at k h b =
     let e : k ≡ suc kinds = omega (arith, h .most) in
     let d : h .done ≡ kindNumbers f =
     sym (append-nil (h .done))
-    ∙ ap (λ (j : ℕ). h .done ++ flatMap twoOf (map faultOf (withLanes (from j f)))) (sym e)
+    ∙ ap (λ (j : ℕ). h .done ++ flatMap twoOf (withLanes (from j f))) (sym e)
     ∙ h .whole in
     (h .stands ∙ ap (λ (ns : List ℕ). afterNumbers ns kindsPlace o₀) d, subst Small d (h .small))

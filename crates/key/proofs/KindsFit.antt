@@ -11,21 +11,20 @@ use lib.Dec.{eqb}
 use Rattle.ground.specs.Tests.{sameList, oneOf, allOf}
 use Rattle.ground.proofs.Bools.{never, and-left, and-right, and-both}
 use Rattle.ground.proofs.Choices.{cond-by}
+use Rattle.lanes.specs.declared.said.Fault.{Fault}
 use Rattle.faulting.specs.declared.faults.Faults.{Faults}
-use Rattle.faulting.specs.Kinds.{Fault as KindLanes, fault, kinds, clear, withLanes, listed, lanesOfKind}
+use Rattle.faulting.specs.Kinds.{fault, kinds, clear, withLanes, listed, lanesOfKind}
 use Rattle.faulting.proofs.EveryKind.{upFrom, kindNumbers, table, every-table, none-listed, Only, those, only-listed}
 use Rattle.faulting.proofs.KindsApart.{Apart, at-device, at-local, dividing}
 use Rattle.replay.proofs.FaultKinds.{Faulty, at-work, at-barrier}
-use Rattle.body.specs.Body.{Fault}
 use Rattle.body.specs.Layout.{apart, kindLists, faultsFit}
-use Rattle.key.specs.Key.{faultOf, kindsOf}
 
 -- the kinds, and the lanes, of a list as a body has it
-abbrev numbersIn : List KindLanes → List ℕ
-numbersIn xs = map (λ (f : Fault). f .kind) (map faultOf xs)
+abbrev numbersIn : List Fault → List ℕ
+numbersIn xs = map (λ (f : Fault). f .kind) xs
 
-abbrev setsIn : List KindLanes → List ℕ
-setsIn xs = map (λ (f : Fault). f .lanes) (map faultOf xs)
+abbrev setsIn : List Fault → List ℕ
+setsIn xs = map (λ (f : Fault). f .lanes) xs
 
 -- ---- one of the page's lists
 
@@ -38,7 +37,7 @@ of-left : (lanes : ℕ → ℕ) (ks : List ℕ) (p : List ℕ → Bool) → ofAl
 of-left lanes [] p h = h
 of-left lanes (k ∷ ks) p h =
     let q : List ℕ → Bool = λ (l : List ℕ). p (k ∷ l) in
-    cond-by (λ (l : List KindLanes). p (numbersIn l) ≡ true) (eqb (lanes k) 0) (withLanes (table lanes ks)) (fault k (lanes k) ∷ withLanes (table lanes ks))
+    cond-by (λ (l : List Fault). p (numbersIn l) ≡ true) (eqb (lanes k) 0) (withLanes (table lanes ks)) (fault k (lanes k) ∷ withLanes (table lanes ks))
     (λ e. of-left lanes ks p (and-right (ofAllLeft q ks) (ofAllLeft p ks) h))
     (λ e. of-left lanes ks q (and-left (ofAllLeft q ks) (ofAllLeft p ks) h))
 
@@ -50,7 +49,7 @@ isNone (k ∷ ks) = false
 abbrev allowed : List ℕ → Bool
 allowed ks = isNone ks || oneOf ks kindLists
 
-some-allowed : (xs : List KindLanes) → (xs ≡ [] → ⊥) → allowed (numbersIn xs) ≡ true → oneOf (numbersIn xs) kindLists ≡ true
+some-allowed : (xs : List Fault) → (xs ≡ [] → ⊥) → allowed (numbersIn xs) ≡ true → oneOf (numbersIn xs) kindLists ≡ true
 some-allowed [] n h = absurd (n refl)
 some-allowed (x ∷ xs) n h = h
 
@@ -58,7 +57,7 @@ only-fits : (ks : List ℕ) (f : Faults) → ofAllLeft allowed (those ks kindNum
     → oneOf (numbersIn (listed f)) kindLists ≡ true
 only-fits ks f h o c =
     some-allowed (listed f) (λ e. never (sym c ∙ none-listed f e))
-    (ap (λ (xs : List KindLanes). allowed (numbersIn xs)) (only-listed ks f o) ∙ of-left (λ k. lanesOfKind k f) (those ks kindNumbers) allowed h)
+    (ap (λ (xs : List Fault). allowed (numbersIn xs)) (only-listed ks f o) ∙ of-left (λ k. lanesOfKind k f) (those ks kindNumbers) allowed h)
 
 faulty-fits : (f : Faults) → Faulty f → clear f ≡ false → oneOf (numbersIn (listed f)) kindLists ≡ true
 unfolding kindLists oneOf sameList
@@ -75,7 +74,7 @@ module _ (lanes : ℕ → ℕ) (away : (k l : ℕ) → (k ≡ l → ⊥) → bit
   from-all k n zero h = refl
   from-all k n (suc c) h =
       let rest = withLanes (table lanes (upFrom (suc n) c)) in
-      cond-by (λ (l : List KindLanes). allOf (λ (b : ℕ). eqb (bitAnd (lanes k) b) 0) (setsIn l) ≡ true) (eqb (lanes n) 0) rest (fault n (lanes n) ∷ rest)
+      cond-by (λ (l : List Fault). allOf (λ (b : ℕ). eqb (bitAnd (lanes k) b) 0) (setsIn l) ≡ true) (eqb (lanes n) 0) rest (fault n (lanes n) ∷ rest)
       (λ e. from-all k (suc n) c (omega arith))
       (λ e. and-both _ _ (eq-eqb _ 0 (away k n (λ z. omega arith))) (from-all k (suc n) c (omega arith)))
 
@@ -84,12 +83,12 @@ module _ (lanes : ℕ → ℕ) (away : (k l : ℕ) → (k ≡ l → ⊥) → bit
   apart-from n zero = refl
   apart-from n (suc c) =
       let rest = withLanes (table lanes (upFrom (suc n) c)) in
-      cond-by (λ (l : List KindLanes). apart (setsIn l) ≡ true) (eqb (lanes n) 0) rest (fault n (lanes n) ∷ rest)
+      cond-by (λ (l : List Fault). apart (setsIn l) ≡ true) (eqb (lanes n) 0) rest (fault n (lanes n) ∷ rest)
       (λ e. apart-from (suc n) c)
       (λ e. and-both _ _ (ap not e) (and-both _ _ (from-all n (suc n) c (omega arith)) (apart-from (suc n) c)))
 
-pub kinds-fit : (f : Faults) → Faulty f → Apart f → clear f ≡ false → faultsFit (kindsOf f) ≡ true
-unfolding kindsOf faultsFit
+pub kinds-fit : (f : Faults) → Faulty f → Apart f → clear f ≡ false → faultsFit (listed f) ≡ true
+unfolding faultsFit
 kinds-fit f y a c =
     and-both (oneOf (numbersIn (listed f)) kindLists) (apart (setsIn (listed f))) (faulty-fits f y c)
-    (ap (λ (xs : List KindLanes). apart (setsIn (withLanes xs))) (every-table f) ∙ apart-from (λ k. lanesOfKind k f) a 1 kinds)
+    (ap (λ (xs : List Fault). apart (setsIn (withLanes xs))) (every-table f) ∙ apart-from (λ k. lanesOfKind k f) a 1 kinds)

@@ -19,10 +19,11 @@ use Rattle.body.specs.Layout.{fitsLayout, isBody, short, notOfLayout}
 use Rattle.body.proofs.Written.{one-body, written-body}
 use Rattle.wave.specs.declared.state.State.{State}
 use Rattle.faulting.specs.declared.faults.Faults.{Faults}
+use Rattle.faulting.specs.Kinds.{listed}
 use Rattle.replay.specs.declared.answers.Outcome.{Outcome}
 use Rattle.replay.specs.declared.answers.Replayed.{Replayed}
 use Rattle.key.specs.declared.answer.KeyAnswer.the-variants.{Wrote, Refused}
-use Rattle.key.specs.Key.{kindsOf, blocksOf, partsOf, Keying, keyed, bodyKey, outcomeKey, keyOf}
+use Rattle.key.specs.Key.{blocksOf, partsOf, Keying, keyed, bodyKey, outcomeKey, keyOf}
 
 -- ---- what was written
 
@@ -112,7 +113,7 @@ key-is-body p n out h k = written-body (take n out) (record { parts = p; small =
 pub record Same (number number′ : ℕ) (f f′ : Faults) (s s′ : State) : Type 0 where
   pub kernel : number ≡ number′
   pub place : s .hot .place ≡ s′ .hot .place
-  pub faults : kindsOf f ≡ kindsOf f′
+  pub faults : listed f ≡ listed f′
   pub active : s .hot .active ≡ s′ .hot .active
   pub halted : s .hot .halted ≡ s′ .hot .halted
   pub blocks : blocksOf s ≡ blocksOf s′

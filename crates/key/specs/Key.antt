@@ -1,17 +1,17 @@
 -- The key of what a run answered (page 01, "The key"): what its body says, and what writing it answers and leaves.
 use Prim.Native.Nat.{ℕ}
 use mathlib.Core.Bool.{cond}
-use mathlib.Core.List.{List, map, reverse}
+use mathlib.Core.List.{List, reverse}
 use lib.Dec.{leb}
 use lib.ListN.{length}
+use Rattle.lanes.specs.declared.said.Block.{Block}
 use Rattle.numbers.specs.Placed.{placed}
-use Rattle.body.specs.Body.{Fault, Block, Parts, bytesOfBody}
+use Rattle.body.specs.Body.{Parts, bytesOfBody}
 use Rattle.body.specs.Layout.{fitsLayout, short, notOfLayout}
-use Rattle.wave.specs.declared.state.Block.{Block as OpenBlock}
 use Rattle.wave.specs.declared.state.State.{State}
 use Rattle.wave.specs.Layout.{opened}
 use Rattle.faulting.specs.declared.faults.Faults.{Faults}
-use Rattle.faulting.specs.Kinds.{Fault as KindLanes, listed}
+use Rattle.faulting.specs.Kinds.{listed}
 use Rattle.replay.specs.declared.answers.Outcome.{Outcome}
 use Rattle.replay.specs.declared.answers.Replayed.{Replayed}
 use Rattle.key.specs.declared.answer.KeyAnswer.{KeyAnswer}
@@ -19,28 +19,9 @@ use Rattle.key.specs.declared.answer.KeyAnswer.the-variants.{Wrote, Refu
 
 -- ---- what the body says
 
--- a fault kind with its lanes, and an open block, as a body has them
-abbrev pub faultOf : KindLanes → Fault
-faultOf f = record { kind = f .kind; lanes = f .lanes }
-
-abbrev pub blockOf : OpenBlock → Block
-blockOf b =
-    record {
-      part = b .part;
-      opener = b .opener;
-      entered = b .entered;
-      aside = b .aside;
-      again = b .again;
-      left = b .left;
-    }
-
--- the fault kinds in rising order, with the lanes of each
-unfoldable pub kindsOf : Faults → List Fault
-kindsOf f = map faultOf (listed f)
-
 -- the open blocks, outermost first
 unfoldable pub blocksOf : State → List Block
-blocksOf s = map blockOf (reverse (opened (s .blocks) (s .hot .depth)))
+blocksOf s = reverse (opened (s .blocks) (s .hot .depth))
 
 -- the kernel number that the caller gives, the place, the fault kinds, the active and the halted lanes, and the open blocks
 unfoldable pub partsOf : ℕ → Faults → State → Parts
@@ -48,7 +29,7 @@ partsOf kernel f s =
     record {
       kernel = kernel;
       place = s .hot .place;
-      faults = kindsOf f;
+      faults = listed f;
       active = s .hot .active;
       halted = s .hot .halted;
       blocks = blocksOf s;

@@ -12,9 +12,9 @@ use Rattle.body.specs.Body.{Parts, twoOf, sixOf, numbersOf, bytesOfBody}
 use Rattle.body.specs.Layout.{mostDepth, faultBytes, blockBytes, headBytes, sizeAt, startsBody, short, notOfLayout}
 use Rattle.wave.specs.declared.state.State.{State}
 use Rattle.faulting.specs.declared.faults.Faults.{Faults}
-use Rattle.faulting.specs.Kinds.{kinds}
+use Rattle.faulting.specs.Kinds.{kinds, listed}
 use Rattle.key.specs.declared.answer.KeyAnswer.the-variants.{Wrote, Refused}
-use Rattle.key.specs.Key.{kindsOf, blocksOf, Keying, keyed}
+use Rattle.key.specs.Key.{blocksOf, Keying, keyed}
 
 -- the bytes of every fault kind and 32 blocks: more than any body of the layout has
 abbrev pub room : ℕ
@@ -46,11 +46,11 @@ noted kind lanes = cond (eqb lanes 0) [] (kind ∷ lanes ∷ [])
 
 -- the numbers of the fault kinds
 unfoldable pub kindNumbers : Faults → List ℕ
-kindNumbers f = flatMap twoOf (kindsOf f)
+kindNumbers f = flatMap twoOf (listed f)
 
 -- the numbers of a body up to the fault kinds
 unfoldable pub headNumbers : ℕ → ℕ → Faults → List ℕ
-headNumbers kernel place f = kernel ∷ place ∷ length (kindsOf f) ∷ kindNumbers f
+headNumbers kernel place f = kernel ∷ place ∷ length (listed f) ∷ kindNumbers f
 
 -- the numbers behind them: active and halted lanes, depth, open blocks
 unfoldable pub stateNumbers : State → List ℕ

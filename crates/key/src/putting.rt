@@ -14,8 +14,9 @@ ghost use lib.ListN.{length};
 ghost use mathlib.Core.Bool.{cond};
 ghost use Rattle.numbers.specs.Placed.{placed};
 ghost use Rattle.numbers.specs.Numbers.{Small, bytesOfAll};
+ghost use Rattle.faulting.specs.Kinds.{listed};
 ghost use Rattle.body.specs.Layout.{mostDepth};
-ghost use Rattle.key.specs.Key.{kindsOf, partsOf};
+ghost use Rattle.key.specs.Key.{partsOf};
 ghost use Rattle.key.specs.Putting.{room, kindsPlace, kindsEnd, after, afterNumbers, noted, kindNumbers, headNumbers, stateNumbers, Put};
 
 // Where the fault kinds stand, behind kernel number, place and count.
@@ -30,7 +31,7 @@ fn kinds_of(lanes: Lanes) -> u32
 
 // The count of fault kinds.
 fn count_of(f: Faults) -> u32
-    ensures { λ r. ⌜ r ≡ length (kindsOf f) ⌝ }
+    ensures { λ r. ⌜ r ≡ length (listed f) ⌝ }
 {
     let mut count: u32 = 0;
     let mut kind: usize = 1;

@@ -1,4 +1,6 @@
 // Sets of lanes, as masks: lane i is bit i.
+pub mod said;
+
 ghost use mathlib.Core.Path.{_≡_};
 ghost use mathlib.Core.Bool.{_&&_};
 ghost use Prim.Native.Nat.{min};

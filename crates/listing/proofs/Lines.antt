@@ -14,7 +14,7 @@ use Rattle.ground.specs.Tests.{allOf}
 use Rattle.numbers.specs.Numbers.{numberAt}
 use Rattle.numbers.specs.Placed.{placed}
 use Rattle.numbers.proofs.Placing.{placed-append, placed-nil, placed-front, length-placed}
-use Rattle.body.specs.Body.{Fault}
+use Rattle.lanes.specs.declared.said.Fault.{Fault}
 use Rattle.body.specs.Layout.{isBody, partsAt, each, faultAt, countAt, depthAt}
 use Rattle.body.proofs.Starts.{body-starts, fits-count, count-eq, depth-eq}
 use Rattle.dayfile.specs.Day.{mostRecords}

@@ -36,9 +36,11 @@ use Rattle.runs.proofs.Adding.{following, runs-add}
 use Rattle.runs.proofs.Returns.{Launchable, passes, launched as launch-run}
 use Rattle.numbers.specs.Numbers.{bytesOf, bytesOfAll}
 use Rattle.numbers.proofs.Placing.{placed-front}
-use Rattle.body.specs.Body.{Fault, Block, Parts, twoOf, sixOf, numbersOf, bytesOfBody}
+use Rattle.lanes.specs.declared.said.Block.{Block}
+use Rattle.lanes.specs.declared.said.Fault.{Fault}
+use Rattle.body.specs.Body.{Parts, twoOf, sixOf, numbersOf, bytesOfBody}
 use Rattle.body.specs.Layout.{kindLists, apart, faultsFit, blockFits, fitsLayout}
-use Rattle.key.specs.Key.{kindsOf, blocksOf, partsOf, bodyKey, outcomeKey, keyOf}
+use Rattle.key.specs.Key.{blocksOf, partsOf, bodyKey, outcomeKey, keyOf}
 use Rattle.marked.specs.Table.{Answer, ended, faulted, least, Open, settings, written, launched, launching, Gives, Each, all, _&_, t12, t13, t14, table}
 
 -- ---- a launch with budget enough
@@ -126,7 +128,7 @@ layout = (refl, refl, refl, refl)
 
 -- THE MARKED TABLE
 pub marked : Each table
-unfolding flatMap tabulate inOrder bit has without first only setOf instrAt itemAt blocks.in-loop blocks.react blocks.ended blocks.step blocks.scan blocks.run control.controlRule control.faultLanes slot byLane gatherOf writeLanes changesOf resultsOf predicateOf faultLanes faultsOf afterOf carriedOf stepOf runOf twoOf sixOf numbersOf bytesOfBody kindsOf blocksOf partsOf outcomeKey keyOf
+unfolding flatMap tabulate inOrder bit has without first only setOf instrAt itemAt blocks.in-loop blocks.react blocks.ended blocks.step blocks.scan blocks.run control.controlRule control.faultLanes slot byLane gatherOf writeLanes changesOf resultsOf predicateOf faultLanes faultsOf afterOf carriedOf stepOf runOf twoOf sixOf numbersOf bytesOfBody blocksOf partsOf outcomeKey keyOf
 marked =
     refl & refl & refl & refl & refl & refl & refl & refl & refl & refl & refl & refl & refl
     & gives 8 4 2 t12 (ended 9 (7 ∷ 8 ∷ 2 ∷ 2 ∷ []) 12) (lawful 4 t12 refl refl refl refl) (λ o e. other-outcome cc) (λ o. refl)

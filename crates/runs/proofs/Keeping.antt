@@ -23,7 +23,7 @@ use Rattle.blocks.specs.Code.{codeOf}
 use Rattle.blocks.specs.Scan.{checkOf}
 use Rattle.blocks.specs.OpenAt.{Found, nowhere, there, openAt}
 use Rattle.blocks.proofs.Instructions.{Instruction, instruction-there}
-use Rattle.wave.specs.declared.state.Block.{Block}
+use Rattle.lanes.specs.declared.said.Block.{Block}
 use Rattle.wave.specs.Wave.{Wave, Preds}
 use Rattle.wave.specs.Control.{controlRule}
 use Rattle.fits.specs.Fits.{OpenThere, WaveFits}

@@ -7,7 +7,7 @@ use native.Mathlib.Numerals.{add-one}
 use native.Mathlib.Omega.{arith}
 use lib.ListN.{length, replicate, getD, set, drop, length-replicate, length-drop}
 use lib.Seq.{drop-cons}
-use Rattle.wave.specs.declared.state.Block.{Block}
+use Rattle.lanes.specs.declared.said.Block.{Block}
 use Rattle.blocks.specs.Scan.{nesting}
 use Rattle.wave.specs.Layout.{blockNumbers, pathNumbers, six, laid, arrayOf, blockAt, opened, over}
 

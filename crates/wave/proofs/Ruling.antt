@@ -11,7 +11,7 @@ use lib.ListN.{length, getD, set, drop, length-map, length-drop}
 use lib.Bits.{bitOr}
 use Rattle.instructions.specs.declared.instr.ControlOp.{ControlOp}
 use Rattle.lanes.specs.Sets.{without}
-use Rattle.wave.specs.declared.state.Block.{Block}
+use Rattle.lanes.specs.declared.said.Block.{Block}
 use Rattle.wave.specs.declared.state.Hot.{Hot}
 use Rattle.wave.specs.declared.rules.Stepped.{Stepped}
 use Rattle.blocks.specs.Scan.{nesting}

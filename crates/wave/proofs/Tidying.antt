@@ -7,7 +7,7 @@ use native.Mathlib.Numerals.{add-one}
 use native.Mathlib.Omega.{arith}
 use lib.ListN.{length, replicate, set, take, drop}
 use lib.Seq.{take-suc-set, take-all, take-at}
-use Rattle.wave.specs.declared.state.Block.{Block}
+use Rattle.lanes.specs.declared.said.Block.{Block}
 use Rattle.wave.specs.declared.state.Hot.{Hot}
 use Rattle.blocks.specs.Scan.{nesting}
 use Rattle.wave.specs.Layout.{blockNumbers, pathNumbers, six, laid, opened}

@@ -13,7 +13,7 @@ use lib.Bits.{bitOr}
 use lib.Dec.{eqb}
 use Rattle.instructions.specs.declared.instr.ControlOp.{ControlOp}
 use Rattle.instructions.specs.declared.instr.ControlOp.the-variants.{If, Else, Endif, Loop, Break, Continue, Endloop, Halt, Barrier, Nop}
-use Rattle.wave.specs.declared.state.Block.{Block}
+use Rattle.lanes.specs.declared.said.Block.{Block}
 use Rattle.wave.specs.declared.state.Hot.{Hot}
 use Rattle.wave.specs.declared.rules.Stepped.{Stepped}
 use Rattle.blocks.specs.Scan.{nesting}

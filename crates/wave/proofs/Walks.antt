@@ -9,7 +9,7 @@ use borrow.Author.Tests.{eq-eqb, ne-eqb}
 use lib.ListN.{length, getD, set, drop}
 use lib.Seq.{getD-set-other, drop-set-add, set-out}
 use lib.Bits.{bitOr}
-use Rattle.wave.specs.declared.state.Block.{Block}
+use Rattle.lanes.specs.declared.said.Block.{Block}
 use Rattle.blocks.specs.Scan.{nesting}
 use Rattle.wave.specs.Layout.{blockNumbers, pathNumbers, six, laid, blockAt, opened, over}
 use Rattle.wave.specs.Rules.{leave, toLoop, isLoop}

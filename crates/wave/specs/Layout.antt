@@ -4,7 +4,7 @@ use Prim.Native.Nat.{ℕ, zero, suc, _+_, _-_, _*_}
 use lib.ListN.{length, replicate, getD, set, drop}
 use Rattle.blocks.specs.Scan.{before, after, looping}
 use Rattle.blocks.specs.OpenAt.{part-number}
-use Rattle.wave.specs.declared.state.Block.{Block}
+use Rattle.lanes.specs.declared.said.Block.{Block}
 
 -- the numbers of a block, and of as many blocks as there is room for
 abbrev pub blockNumbers : ℕ

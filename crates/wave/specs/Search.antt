@@ -7,7 +7,7 @@ use mathlib.Core.List.{List, [], _∷_}
 use Prim.Native.Nat.{ℕ}
 use lib.ListN.{length, set, getD}
 use lib.Bits.{bitOr}
-use Rattle.wave.specs.declared.state.Block.{Block}
+use Rattle.lanes.specs.declared.said.Block.{Block}
 use Rattle.blocks.specs.Scan.{nesting}
 use Rattle.wave.specs.Layout.{six}
 use Rattle.wave.specs.Rules.{isLoop}

@@ -44,16 +44,6 @@ pub struct Hot {
     pub depth: u32,
 }
 
-// An open block.
-pub struct Block {
-    pub part: u32,
-    pub opener: u32,
-    pub entered: Lanes,
-    pub aside: Lanes,
-    pub again: Lanes,
-    pub left: Lanes,
-}
-
 // A wave's whole state. The numbers of `blocks` past the open blocks do not count.
 pub struct State {
     pub hot: Hot,

@@ -1,5 +1,5 @@
 -- IF: six stores put one block more above the open ones, where there is room.
-use Rattle.wave.specs.declared.state.Block.{Block}
+use Rattle.lanes.specs.declared.said.Block.{Block}
 use Rattle.wave.specs.Layout.{beforeElse}
 use Rattle.wave.specs.Rules.{ifRule, opening}
 use Rattle.wave.proofs.Ruling.{Begun, full, opened-one}
