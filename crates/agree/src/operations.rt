@@ -57,8 +57,8 @@ fn read_words(case: &[u8], words: &mut [u32], out: &mut [u8]) -> usize {
             let at = give_length(out, 0, 0, 0, n);
             give_instruction(out, at, instr)
         }
-        ReadAnswer::Refused { number, place } => {
-            let at = give_length(out, 0, number, place, 0);
+        ReadAnswer::Refused(refusal) => {
+            let at = give_length(out, 0, refusal.number, refusal.place, 0);
             give_words(out, at, &[0; 9])
         }
     }
@@ -121,7 +121,7 @@ fn instruction_of(case: &[u8], op: Op) -> Instr {
 fn give_wrote(out: &mut [u8], wrote: WriteAnswer) -> usize {
     match wrote {
         WriteAnswer::Wrote { words: n } => give_length(out, 0, 0, 0, n),
-        WriteAnswer::Refused { number, place } => give_length(out, 0, number, place, 0),
+        WriteAnswer::Refused(refusal) => give_length(out, 0, refusal.number, refusal.place, 0),
     }
 }
 
@@ -156,7 +156,7 @@ fn text_in(instr: Instr, room: &mut [u8]) -> TextAnswer {
 fn give_text(out: &mut [u8], wrote: TextAnswer) -> usize {
     match wrote {
         TextAnswer::Wrote { bytes: n } => give_length(out, 0, 0, 0, n),
-        TextAnswer::Refused { number, place } => give_length(out, 0, number, place, 0),
+        TextAnswer::Refused(refusal) => give_length(out, 0, refusal.number, refusal.place, 0),
     }
 }
 

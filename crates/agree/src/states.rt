@@ -9,6 +9,7 @@ use packing::STATE_WORDS;
 use packing::state_of;
 use packing::word_count;
 use packing::words_of;
+use refusals::Refusal;
 use replay::answers::Outcome;
 use wave::state::State;
 use wave::state::whole;
@@ -23,8 +24,9 @@ pub(crate) fn give_outcome(out: &mut [u8], at: usize, outcome: Outcome) -> usize
             at,
             &[2, 0, 0, f.odd, f.device, f.local, f.divisor, f.barrier],
         ),
-        Outcome::Refused { number, place } => {
-            give_words(out, at, &[3, number, low(place), 0, 0, 0, 0, 0])
+        Outcome::Refused(refusal) => {
+            let place = low(refusal.place);
+            give_words(out, at, &[3, refusal.number, place, 0, 0, 0, 0, 0])
         }
     }
 }
@@ -56,10 +58,10 @@ pub(crate) fn outcome_of(case: &[u8]) -> Outcome {
         0 => Outcome::Ended,
         1 => Outcome::OutOfBudget,
         2 => Outcome::Fault(faults_of(case)),
-        _ => Outcome::Refused {
+        _ => Outcome::Refused(Refusal {
             number: number(case, 3),
             place: number(case, 4) as usize,
-        },
+        }),
     }
 }
 

@@ -46,10 +46,10 @@ fn report(case: [u32; LONGEST], count: usize) {
         Checked::Fine => {
             io::write_all(STDOUT_FILENO, b"fine");
         }
-        Checked::Refused(number, place) => {
-            io::print_decimal(STDOUT_FILENO, number as u64);
+        Checked::Refused(refusal) => {
+            io::print_decimal(STDOUT_FILENO, refusal.number as u64);
             io::write_all(STDOUT_FILENO, b" ");
-            io::print_decimal(STDOUT_FILENO, place as u64);
+            io::print_decimal(STDOUT_FILENO, refusal.place as u64);
         }
     }
     io::write_all(STDOUT_FILENO, b"\n");

@@ -5,6 +5,8 @@ use mathlib.Core.Path.{_≡_, refl, sym, ap, _∙_, subst}
 use mathlib.Core.Bool.{Bool, true, false}
 use mathlib.Core.List.{List, [], _∷_}
 use lib.Dec.{ltb}
+use Rattle.refusals.specs.declared.Refusal.{Refusal}
+use Rattle.refusals.specs.Table.{Rule, broken}
 use Rattle.blocks.specs.declared.rules.Inside.{Inside}
 use Rattle.blocks.specs.declared.rules.Turn.{Turn}
 use Rattle.blocks.specs.declared.rules.Turn.the-variants.{Go, Close, Enter, Stop}
@@ -18,6 +20,7 @@ use Rattle.blocks.specs.Levels.{around, Stands}
 use Rattle.blocks.specs.Nesting.{innermost}
 use Rattle.blocks.specs.Stacks.{Holds, Turned, Advances, partOf}
 use Rattle.blocks.proofs.Widths.{Fits}
+use Rattle.blocks.proofs.Refusing.{same-place}
 use Rattle.blocks.proofs.Passes.{step-in, step-past}
 use Rattle.blocks.proofs.Judging.{told, Gone, Entered, TurnOk, turned-ok}
 use Rattle.blocks.proofs.Stacks.{loops-le, in-loop-is, part-of-inside}
@@ -28,17 +31,17 @@ pub record Ready (code : Code) (at : ℕ) (s : Stack) (part : Inside) (l : Bool)
   pub in-code : at < code .size
   pub inside : (o : List Open) → Holds s o → part ≡ innermost o
   pub looped : l ≡ ltb 0 (s .loops)
-  pub turn : turnOf (code .item at) (nesting - s .depth) part l ≡ u
+  pub turn : turnOf (code .item at) at (nesting - s .depth) part l ≡ u
 
 pub stopped : (code : Code) (at : ℕ) (o : List Open) (s : Stack) → code .size ≤ at → Advances (step code at o) (record { on = false; at = at; stack = s })
 stopped code at o s h = subst (λ (x : Next). Advances x (record { on = false; at = at; stack = s })) (sym (step-past code at o h)) refl
 
 -- a block that was entered is the one that was put on the stack
-entered-is : (n o : List Open) (k : Inside) (at : ℕ) → innermost n ≡ k → around n ≡ o → ended n ≡ Refused 10 at → n ≡ open-at (partOf k) at ∷ o
+entered-is : (n o : List Open) (k : Inside) (at : ℕ) → innermost n ≡ k → around n ≡ o → ended n ≡ Refused (broken Rule.unclosed at) → n ≡ open-at (partOf k) at ∷ o
 unfolding innermost around ended
 entered-is [] o k at e f g = let z : _≡_ {A = ℕ} 0 1 = cc in absurd (omega arith)
 entered-is (open-at j p ∷ n) o k at e f g =
-    let q : p ≡ at = cc in
+    let q : p ≡ at = same-place (broken Rule.unclosed p) (broken Rule.unclosed at) g in
     let i : j ≡ partOf k = sym (part-of-inside j) ∙ ap partOf e in
     ap (λ (x : Part). open-at x p ∷ n) i ∙ ap (λ (x : ℕ). open-at (partOf k) x ∷ n) q ∙ ap (λ (x : List Open). open-at (partOf k) at ∷ x) f
 
@@ -86,7 +89,7 @@ module _ {code : Code} {at : ℕ} {s : Stack} {part : Inside} {l : Bool} {u : Tu
       stepped o (go (at + 1) (g .now-open)) (record { on = true; at = at + 1; stack = r }) (g .goes)
       (refl, refl, subst (Holds r) (sym (entered-is (g .now-open) o k at (g .stands .inside-is) (g .round) (g .at-end))) (f o h))
 
-  pub stop : {n : ℕ} → u ≡ Stop n → (o : List Open) → Holds s o → Advances (step code at o) (record { on = false; at = at; stack = s })
-  stop {n} e o h =
-      stepped o (over (Refused n at)) (record { on = false; at = at; stack = s })
-      (told (code .item at) at (nesting - s .depth) part l o (standing o h) (Stop n) (j .turn ∙ e)) refl
+  pub stop : {r : Refusal} → u ≡ Stop r → (o : List Open) → Holds s o → Advances (step code at o) (record { on = false; at = at; stack = s })
+  stop {r} e o h =
+      stepped o (over (Refused r)) (record { on = false; at = at; stack = s })
+      (told (code .item at) at (nesting - s .depth) part l o (standing o h) (Stop r) (j .turn ∙ e)) refl

@@ -1,4 +1,4 @@
--- What the blocks see at a place, against the words there: the number of a refusal exactly if the words break that rule (`bad-if`), and a block
+-- What the blocks see at a place, against the words there: a refusal exactly if the words break its rule (`bad-if`), and a block
 -- instruction or a plain one exactly if an instruction stands there, its registers below R (`has`, `has-seen`).
 use Prim.Native.Nat.{ℕ, _<_}
 use native.Mathlib.Omega.{arith}
@@ -9,12 +9,13 @@ use mathlib.Core.Logic.{_↔_, ⊎-elim}
 use lib.ListN.{length}
 use Rattle.ground.proofs.Bools.{never}
 use Rattle.ground.proofs.Tests.{true-or-false}
+use Rattle.refusals.specs.declared.Refusal.{Refusal}
+use Rattle.refusals.specs.Table.{Rule, broken}
 use Rattle.instructions.specs.declared.instr.ControlOp.{ControlOp}
 use Rattle.instructions.specs.declared.instr.Instr.{Instr}
 use Rattle.words.specs.declared.fetching.ControlIn.{ControlIn}
 use Rattle.words.specs.Fetching.{controlIn}
 use Rattle.words.specs.Layout.{wordsOf}
-use Rattle.words.specs.Refusals.{Rule, numberOf}
 use Rattle.instructions.specs.Registers.{registersBelow}
 use Rattle.words.proofs.Standing.{stood, standing, read-span}
 use Rattle.words.proofs.Verdicts.{Verdict, verdict}
@@ -34,7 +35,7 @@ Carried Item.Endif = Unit {0}
 Carried Item.Loop = Unit {0}
 Carried Item.Jump = Unit {0}
 Carried Item.Endloop = Unit {0}
-Carried (Item.Bad n) = ⊥
+Carried (Item.Bad r) = ⊥
 
 item-carried : (c : ControlIn) (width : ℕ) → Carried (itemBy c width)
 item-carried ControlIn.Other w = tt
@@ -50,27 +51,26 @@ item-carried (ControlIn.Control ControlOp.Barrier) w = tt
 item-carried (ControlIn.Control ControlOp.Nop) w = tt
 
 module _ (words : List ℕ) (R at : ℕ) (here : at < length words) where
-  alone : (n : ℕ) → Verdict words at → itemAt words R at ≡ Item.Bad n → Alone words R at n
-  alone n (Verdict.broken rule b e) f =
-      let z : numberOf rule ≡ n = cc (seen-refused words R at e) in subst (Alone words R at) z (in-words rule b)
-  alone n (Verdict.read x k e) f =
+  alone : (r : Refusal) → Verdict words at → itemAt words R at ≡ Item.Bad r → Alone words R at r
+  alone r (Verdict.broken q b e) f = let z : q ≡ r = cc (seen-refused words R at e) in subst (Alone words R at) z (in-words b)
+  alone r (Verdict.read x k e) f =
       ⊎-elim
       (λ (t : registersBelow R x ≡ true). absurd (subst Carried (sym (seen-whole words R at e t) ∙ f) (item-carried (controlIn (x .op)) k)))
       (λ (t : registersBelow R x ≡ false).
-      let z : _≡_ {A = ℕ} 7 n = cc (seen-past words R at e t) in
+      let z : broken Rule.register at ≡ r = cc (seen-past words R at e t) in
       subst (Alone words R at) z (register-past x (stood words at x k e .0) (past-if R x .0 t)))
       (true-or-false (registersBelow R x))
 
-  bad : (n : ℕ) → Alone words R at n → itemAt words R at ≡ Item.Bad n
-  bad n (in-words rule b) = seen-refused words R at (refuses words at rule .1 b)
-  bad n (register-past x s p) = seen-past words R at (standing words at x s) (past-if R x .1 p)
+  bad : (r : Refusal) → Alone words R at r → itemAt words R at ≡ Item.Bad r
+  bad r (in-words b) = seen-refused words R at (refuses words at r .1 b)
+  bad r (register-past x s p) = seen-past words R at (standing words at x s) (past-if R x .1 p)
 
-  -- THE WORDS BREAK A RULE by themselves exactly if the blocks see its number
-  pub bad-if : (n : ℕ) → (itemAt words R at ≡ Item.Bad n) ↔ Alone words R at n
-  bad-if n = (alone n (verdict words at), bad n)
+  -- THE WORDS BREAK A RULE by themselves exactly if the blocks see its refusal
+  pub bad-if : (r : Refusal) → (itemAt words R at ≡ Item.Bad r) ↔ Alone words R at r
+  bad-if r = (alone r (verdict words at), bad r)
 
   shown : (i : Item) → Carried i → Verdict words at → itemAt words R at ≡ i → Has words R at i
-  shown i c (Verdict.broken rule b e) f = absurd (subst Carried (sym f ∙ seen-refused words R at e) c)
+  shown i c (Verdict.broken r b e) f = absurd (subst Carried (sym f ∙ seen-refused words R at e) c)
   shown i c (Verdict.read x k e) f =
       ⊎-elim
       (λ (t : registersBelow R x ≡ true).

@@ -4,6 +4,7 @@ use mathlib.Core.Path.{_≡_, refl}
 use mathlib.Core.Bool.{Bool, true, false, cond}
 use mathlib.Core.List.{List}
 use lib.ListN.{length}
+use Rattle.refusals.specs.Table.{Rule, broken}
 use Rattle.instructions.specs.declared.instr.Instr.{Instr}
 use Rattle.words.specs.declared.reading.ReadAnswer.{ReadAnswer}
 use Rattle.instructions.specs.Forms.{limitsOf, sizeOf}
@@ -36,7 +37,7 @@ NotBad Item.Endif = Unit {0}
 NotBad Item.Loop = Unit {0}
 NotBad Item.Jump = Unit {0}
 NotBad Item.Endloop = Unit {0}
-NotBad (Item.Bad n) = ⊥
+NotBad (Item.Bad r) = ⊥
 
 not-bad : (code : Code) (i : Item) (at : ℕ) (o : List Open) → Allowed code i at o → NotBad i
 not-bad code (Item.Plain w) at o a = tt
@@ -46,11 +47,11 @@ not-bad code Item.Endif at o a = tt
 not-bad code Item.Loop at o a = tt
 not-bad code Item.Jump at o a = tt
 not-bad code Item.Endloop at o a = tt
-not-bad code (Item.Bad n) at o a = a
+not-bad code (Item.Bad r) at o a = a
 
 module _ (words : List ℕ) (registers at : ℕ) where
   below-seen : (i : Instr) (n : ℕ) → readAt words at ≡ ReadAnswer.Read i n → (b : Bool) → registersBelow registers i ≡ b
-      → NotBad (cond b (itemOf (i .op) n) (Item.Bad 7)) → Instruction words registers at
+      → NotBad (cond b (itemOf (i .op) n) (Item.Bad (broken Rule.register at))) → Instruction words registers at
   below-seen i n e true f ok =
       record {
         instr = i;
@@ -62,9 +63,9 @@ module _ (words : List ℕ) (registers at : ℕ) where
       }
   below-seen i n e false f ok = absurd ok
 
-  read-seen : (a : ReadAnswer) → readAt words at ≡ a → NotBad (seen registers a) → Instruction words registers at
+  read-seen : (a : ReadAnswer) → readAt words at ≡ a → NotBad (seen registers at a) → Instruction words registers at
   read-seen (ReadAnswer.Read i n) e ok = below-seen i n e (registersBelow registers i) refl ok
-  read-seen (ReadAnswer.Refused n p) e ok = absurd ok
+  read-seen (ReadAnswer.Refused r) e ok = absurd ok
 
   pub instruction-there : checkOf (codeOf words registers) ≡ Fine → (o : List Open) → openAt (codeOf words registers) at ≡ there o → at < length words
       → Instruction words registers at

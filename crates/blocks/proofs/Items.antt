@@ -3,6 +3,8 @@ use Prim.Native.Nat.{ℕ}
 use mathlib.Core.Path.{_≡_, ap, _∙_}
 use mathlib.Core.Bool.{Bool, true, false, cond}
 use mathlib.Core.List.{List}
+use Rattle.refusals.specs.declared.Refusal.{Refusal}
+use Rattle.refusals.specs.Table.{Rule, broken}
 use Rattle.instructions.specs.declared.instr.Instr.{Instr}
 use Rattle.words.specs.declared.reading.ReadAnswer.{ReadAnswer}
 use Rattle.words.specs.Reading.{readAt}
@@ -12,16 +14,16 @@ use Rattle.blocks.specs.Item.{itemOf, seen, itemAt}
 
 module _ (words : List ℕ) (registers at : ℕ) where
   by-registers : {i : Instr} {n : ℕ} (b : Bool) → readAt words at ≡ ReadAnswer.Read i n → registersBelow registers i ≡ b
-      → itemAt words registers at ≡ cond b (itemOf (i .op) n) (Item.Bad 7)
+      → itemAt words registers at ≡ cond b (itemOf (i .op) n) (Item.Bad (broken Rule.register at))
   unfolding itemAt
-  by-registers {i} {n} b e f = ap (seen registers) e ∙ ap (λ (x : Bool). cond x (itemOf (i .op) n) (Item.Bad 7)) f
+  by-registers {i} {n} b e f = ap (seen registers at) e ∙ ap (λ (x : Bool). cond x (itemOf (i .op) n) (Item.Bad (broken Rule.register at))) f
 
   pub seen-whole : {i : Instr} {n : ℕ} → readAt words at ≡ ReadAnswer.Read i n → registersBelow registers i ≡ true → itemAt words registers at ≡ itemOf (i .op) n
   seen-whole e f = by-registers true e f
 
-  pub seen-past : {i : Instr} {n : ℕ} → readAt words at ≡ ReadAnswer.Read i n → registersBelow registers i ≡ false → itemAt words registers at ≡ Item.Bad 7
+  pub seen-past : {i : Instr} {n : ℕ} → readAt words at ≡ ReadAnswer.Read i n → registersBelow registers i ≡ false → itemAt words registers at ≡ Item.Bad (broken Rule.register at)
   seen-past e f = by-registers false e f
 
-  pub seen-refused : {n p : ℕ} → readAt words at ≡ ReadAnswer.Refused n p → itemAt words registers at ≡ Item.Bad n
+  pub seen-refused : {r : Refusal} → readAt words at ≡ ReadAnswer.Refused r → itemAt words registers at ≡ Item.Bad r
   unfolding itemAt
-  seen-refused e = ap (seen registers) e
+  seen-refused e = ap (seen registers at) e

@@ -1,3 +1,4 @@
+pub mod Refusing
 pub mod Items
 pub mod Alone
 pub mod Widths

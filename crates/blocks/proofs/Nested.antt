@@ -10,6 +10,7 @@ use mathlib.Core.List.{List, [], _∷_}
 use lib.ListN.{length}
 use lib.Dec.{ltb}
 use borrow.Author.Tests.{lt-ltb, le-ltb}
+use Rattle.refusals.specs.Table.{Rule, broken}
 use Rattle.blocks.specs.declared.item.Item.{Item}
 use Rattle.blocks.specs.declared.structure.Checked.the-variants.{Fine, Refused}
 use Rattle.blocks.specs.Code.{Code, codeOf}
@@ -34,7 +35,7 @@ module _ (words : List ℕ) (R : ℕ) (P : ℕ → List Open → Type 0)
       kept at o a q p (step-in (codeOf words R) at o (s .0) ∙ ap (λ (j : Item). react j at o) (s .1) ∙ e)
 
   entered : (i : Item) (part : Part) (at : ℕ) (o : List Open) → Has words R at i
-      → react i at o ≡ cond (ltb (length o) nesting) (go (at + 1) (open-at part at ∷ o)) (over (Refused 9 at)) → length o < nesting
+      → react i at o ≡ cond (ltb (length o) nesting) (go (at + 1) (open-at part at ∷ o)) (over (Refused (broken Rule.depth at))) → length o < nesting
       → P at o → P (at + 1) (open-at part at ∷ o)
   entered i part at o h e b = moved i at o (at + 1) (open-at part at ∷ o) h (e ∙ rw (lt-ltb (length o) nesting b) refl)
 
@@ -134,7 +135,7 @@ module _ (words : List ℕ) (R : ℕ) where
 
   led-in : (part : Part) (at room : ℕ) (o : List Open) → length o + room ≡ nesting
       → ((inner : ℕ) → room ≡ suc inner → Opened words R inner (open-at part at ∷ o) (at + 1))
-      → Led (cond (ltb (length o) nesting) (go (at + 1) (open-at part at ∷ o)) (over (Refused 9 at)))
+      → Led (cond (ltb (length o) nesting) (go (at + 1) (open-at part at ∷ o)) (over (Refused (broken Rule.depth at))))
   led-in part at zero o l f = rw (le-ltb (length o) nesting (omega arith)) tt
   led-in part at (suc room) o l f = rw (lt-ltb (length o) nesting (omega arith)) (room, f room refl)
 
@@ -169,7 +170,7 @@ module _ (words : List ℕ) (R : ℕ) where
   led Item.Endloop at room (open-at before p ∷ o) h x = tt
   led Item.Endloop at room (open-at after p ∷ o) h x = tt
   led Item.Endloop at room (open-at looping p ∷ o) h x = (suc room, shut-body room p o at x (has words R at (h .0) Item.Endloop tt (h .1)))
-  led (Item.Bad n) at room o h x = tt
+  led (Item.Bad r) at room o h x = tt
 
   pub led-step : (at : ℕ) (o : List Open) → ((room : ℕ) × Opened words R room o at) → Led (step code at o)
   led-step at o x =

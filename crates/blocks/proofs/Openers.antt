@@ -9,6 +9,7 @@ use mathlib.Core.List.{List, [], _∷_}
 use lib.ListN.{length}
 use lib.Dec.{ltb}
 use borrow.Author.Tests.{ltb-true}
+use Rattle.refusals.specs.Table.{Rule, broken}
 use Rattle.blocks.specs.declared.item.Item.{Item}
 use Rattle.blocks.specs.declared.structure.Checked.the-variants.{Refused}
 use Rattle.blocks.specs.Code.{Code}
@@ -53,8 +54,8 @@ NextOpened code (go a q) = EachOpened code q × (length q ≤ nesting)
 
 module _ (code : Code) (fits : Fits code) where
   opens-opened : (part : Part) (at : ℕ) (o : List Open) → opening part ≡ part → at < code .size → code .item at ≡ openerOf part → Nested code at o
-      → (b : Bool) → ltb (length o) nesting ≡ b → step code at o ≡ cond b (go (at + 1) (open-at part at ∷ o)) (over (Refused 9 at))
-      → NextOpened code (cond b (go (at + 1) (open-at part at ∷ o)) (over (Refused 9 at)))
+      → (b : Bool) → ltb (length o) nesting ≡ b → step code at o ≡ cond b (go (at + 1) (open-at part at ∷ o)) (over (Refused (broken Rule.depth at)))
+      → NextOpened code (cond b (go (at + 1) (open-at part at ∷ o)) (over (Refused (broken Rule.depth at))))
   unfolding EachOpened
   opens-opened part at o first h i k true b e = (
     (
@@ -94,7 +95,7 @@ module _ (code : Code) (fits : Fits code) where
   react-opened Item.Endloop at (open-at before p ∷ o) h i k e = tt
   react-opened Item.Endloop at (open-at after p ∷ o) h i k e = tt
   react-opened Item.Endloop at (open-at looping p ∷ o) h i k e = (k .opened .1, omega (arith, k .room))
-  react-opened (Item.Bad n) at o h i k e = tt
+  react-opened (Item.Bad r) at o h i k e = tt
 
   step-opened : (at : ℕ) (o : List Open) → Nested code at o → NextOpened code (step code at o)
   step-opened at o k =

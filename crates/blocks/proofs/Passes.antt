@@ -7,6 +7,7 @@ use mathlib.Core.List.{List, [], _∷_}
 use lib.ListN.{length}
 use lib.Dec.{ltb}
 use borrow.Author.Tests.{lt-ltb, le-ltb, ltb-true}
+use Rattle.refusals.specs.Table.{Rule, broken}
 use Rattle.blocks.specs.declared.item.Item.{Item}
 use Rattle.blocks.specs.declared.structure.Checked.{Checked}
 use Rattle.blocks.specs.declared.structure.Checked.the-variants.{Refused}
@@ -27,7 +28,7 @@ react-moves : (i : Item) (at size : ℕ) (o : List Open) → Ok at size i → at
 unfolding react
 react-moves (Item.Plain w) at size o ok h = omega arith
 react-moves Item.If at size o ok h =
-    cond-moves at size (ltb (length o) nesting) (go (at + 1) (open-at before at ∷ o)) (over (Refused 9 at)) (λ _. omega arith) (λ _. tt)
+    cond-moves at size (ltb (length o) nesting) (go (at + 1) (open-at before at ∷ o)) (over (Refused (broken Rule.depth at))) (λ _. omega arith) (λ _. tt)
 react-moves Item.Else at size [] ok h = tt
 react-moves Item.Else at size (open-at before p ∷ o) ok h = omega arith
 react-moves Item.Else at size (open-at after p ∷ o) ok h = tt
@@ -37,13 +38,13 @@ react-moves Item.Endif at size (open-at before p ∷ o) ok h = omega arith
 react-moves Item.Endif at size (open-at after p ∷ o) ok h = omega arith
 react-moves Item.Endif at size (open-at looping p ∷ o) ok h = tt
 react-moves Item.Loop at size o ok h =
-    cond-moves at size (ltb (length o) nesting) (go (at + 1) (open-at looping at ∷ o)) (over (Refused 9 at)) (λ _. omega arith) (λ _. tt)
+    cond-moves at size (ltb (length o) nesting) (go (at + 1) (open-at looping at ∷ o)) (over (Refused (broken Rule.depth at))) (λ _. omega arith) (λ _. tt)
 react-moves Item.Jump at size o ok h = cond-moves at size (in-loop o) (go (at + 1) o) (stray at) (λ _. omega arith) (λ _. tt)
 react-moves Item.Endloop at size [] ok h = tt
 react-moves Item.Endloop at size (open-at before p ∷ o) ok h = tt
 react-moves Item.Endloop at size (open-at after p ∷ o) ok h = tt
 react-moves Item.Endloop at size (open-at looping p ∷ o) ok h = omega arith
-react-moves (Item.Bad n) at size o ok h = tt
+react-moves (Item.Bad r) at size o ok h = tt
 
 -- past the end, and in the code
 pub step-past : (code : Code) (at : ℕ) (o : List Open) → code .size ≤ at → step code at o ≡ over (ended o)

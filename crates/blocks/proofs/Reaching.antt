@@ -4,6 +4,8 @@ use native.Mathlib.Omega.{arith}
 use mathlib.Core.Path.{_≡_, refl, sym, ap, _∙_, subst}
 use mathlib.Core.Bool.{Bool, false}
 use mathlib.Core.List.{List, [], _∷_}
+use Rattle.refusals.specs.declared.Refusal.{Refusal}
+use Rattle.refusals.specs.Table.{Rule, broken}
 use Rattle.blocks.specs.declared.rules.Inside.{Inside}
 use Rattle.blocks.specs.declared.rules.Turn.{Turn}
 use Rattle.blocks.specs.declared.rules.Turn.the-variants.{Go, Close, Enter, Stop}
@@ -39,7 +41,7 @@ pub record Here (code : Code) (from room : ℕ) (inside : Inside) (l : Bool) (at
   pub fits : Fits code
   pub in-code : at < code .size
   pub along : Along code from room inside l at part
-  pub turn : turnOf (code .item at) room part l ≡ u
+  pub turn : turnOf (code .item at) at room part l ≡ u
 
 innermost-of-none : (n : List Open) → ended n ≡ Fine → innermost n ≡ Inside.Nothing
 unfolding innermost ended
@@ -90,18 +92,18 @@ module _ {code : Code} {from room : ℕ} {inside : Inside} {l : Bool} {at : ℕ}
       shut : (o : List Open) → Reached code from o at room part l → o ≡ [] → ⊥
       shut o r z =
           subst NotClose (j .turn ∙ e)
-          (subst (λ (k : Inside). NotClose (turnOf (code .item at) room k l)) (sym (innermost-of-none (r .now-open) (r .at-end ∙ ap ended z)) ∙ r .stands .inside-is)
-          (nothing-closes (code .item at) room l))
+          (subst (λ (k : Inside). NotClose (turnOf (code .item at) at room k l)) (sym (innermost-of-none (r .now-open) (r .at-end ∙ ap ended z)) ∙ r .stands .inside-is)
+          (nothing-closes (code .item at) at room l))
 
   -- a turn that refuses
-  pub stop : {n : ℕ} → u ≡ Stop n → LevelSays code from room inside l (LevelEnd.Refused n at)
-  stop {n} e = record { within = tt; shut = λ o s. tt; same = λ o s. same o (j .along .2 o s) }
+  pub stop : {r : Refusal} → u ≡ Stop r → LevelSays code from room inside l (LevelEnd.Refused r)
+  stop {r} e = record { within = tt; shut = λ o s. tt; same = λ o s. same o (j .along .2 o s) }
     where
-      same : (o : List Open) → Reached code from o at room part l → run code from o ≡ Refused n at
-      same o r =
-          r .same
-          ∙ run-to code (j .fits) at (r .now-open) (over (Refused n at)) (j .in-code)
-          (told (code .item at) at room part l (r .now-open) (r .stands) (Stop n) (j .turn ∙ e))
+      same : (o : List Open) → Reached code from o at room part l → run code from o ≡ Refused r
+      same o x =
+          x .same
+          ∙ run-to code (j .fits) at (x .now-open) (over (Refused r)) (j .in-code)
+          (told (code .item at) at room part l (x .now-open) (x .stands) (Stop r) (j .turn ∙ e))
 
   -- a turn that enters a block: there is room for it
   pub enter-ok : {k : Inside} {b : Bool} → u ≡ Enter k b → 1 ≤ room
@@ -141,10 +143,10 @@ module _ {code : Code} {from room : ℕ} {inside : Inside} {l : Bool} {at : ℕ}
                 at-end = r .at-end;
               }
 
-      pub inner-stop : {n p : ℕ} → x ≡ LevelEnd.Refused n p → LevelSays code from room inside l (LevelEnd.Refused n p)
-      inner-stop {n} {p} f = record { within = tt; shut = λ o s. tt; same = λ o s. inner-run (j .along .2 o s) (LevelEnd.Refused n p) (answered f) }
+      pub inner-stop : {r : Refusal} → x ≡ LevelEnd.Refused r → LevelSays code from room inside l (LevelEnd.Refused r)
+      inner-stop {r} f = record { within = tt; shut = λ o s. tt; same = λ o s. inner-run (j .along .2 o s) (LevelEnd.Refused r) (answered f) }
 
-      pub inner-end : x ≡ LevelEnd.Ended → LevelSays code from room inside l (LevelEnd.Refused 10 at)
+      pub inner-end : x ≡ LevelEnd.Ended → LevelSays code from room inside l (LevelEnd.Refused (broken Rule.unclosed at))
       inner-end f =
           record { within = tt; shut = λ o s. tt; same = λ o s. inner-run (j .along .2 o s) LevelEnd.Ended (answered f) ∙ inner (j .along .2 o s) .at-end }
 
@@ -166,7 +168,7 @@ module _ {code : Code} {r : LevelEnd} (says : LevelSays code 0 nesting Inside.No
   pub whole-closed : {at : ℕ} → r ≡ LevelEnd.Closed at → ⊥
   whole-closed e = subst (LevelSays code 0 nesting Inside.Nothing false) e says .shut [] at-top refl
 
-  pub whole-refused : {n p : ℕ} → r ≡ LevelEnd.Refused n p → Refused n p ≡ checkOf code
+  pub whole-refused : {q : Refusal} → r ≡ LevelEnd.Refused q → Refused q ≡ checkOf code
   whole-refused e = sym (subst (LevelSays code 0 nesting Inside.Nothing false) e says .same [] at-top)
 
   pub whole-ended : r ≡ LevelEnd.Ended → Fine ≡ checkOf code

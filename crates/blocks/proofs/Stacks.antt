@@ -7,6 +7,7 @@ use lib.ListN.{length, getD, set, length-set, getD-replicate}
 use lib.Seq.{getD-set-same, getD-set-other, set-set, set-getD}
 use lib.Dec.{ltb}
 use borrow.Author.Tests.{lt-ltb}
+use Rattle.refusals.specs.Table.{Rule, broken}
 use Rattle.blocks.specs.declared.rules.Inside.{Inside}
 use Rattle.blocks.specs.declared.structure.Checked.the-variants.{Fine, Refused}
 use Rattle.blocks.specs.declared.places.Stack.{Stack}
@@ -15,6 +16,7 @@ use Rattle.blocks.specs.OpenAt.{part-number, number-of, opener-of, one-i
 use Rattle.blocks.specs.Levels.{around}
 use Rattle.blocks.specs.Nesting.{insideOf, innermost}
 use Rattle.blocks.specs.Stacks.{Holds, Turned, numberOf, insideFrom, partOf}
+use Rattle.blocks.proofs.Refusing.{same-place}
 
 -- a stack that holds the blocks is their stack
 pub holds-is : (s : Stack) (o : List Open) → Holds s o → s ≡ stackOf o
@@ -157,7 +159,7 @@ pub turn-none : (s : Stack) (o n : List Open) (k : Inside) → Holds s o → Tur
 unfolding ended
 turn-none s [] [] k h t e = h
 turn-none s [] (open-at j p ∷ n) k h t e =
-    let x : Refused 10 p ≡ Fine = t .at-end in
+    let x : Refused (broken Rule.unclosed p) ≡ Fine = t .at-end in
     let z : _≡_ {A = ℕ} 0 1 = cc in
     absurd (omega arith)
 turn-none s (open-at j p ∷ o) n k h t e = absurd (omega (arith, h .depth-is))
@@ -167,14 +169,13 @@ pub turn : (s : Stack) (o n : List Open) (k : Inside) (v : ℕ) → Holds s o �
 unfolding ended innermost around filled
 turn s [] n k v h t ne e = absurd (ne (h .depth-is))
 turn s (open-at j p ∷ o) [] k v h t ne e =
-    let x : Fine ≡ Refused 10 p = t .at-end in
+    let x : Fine ≡ Refused (broken Rule.unclosed p) = t .at-end in
     let z : _≡_ {A = ℕ} 0 1 = cc in
     absurd (omega arith)
 turn s (open-at j p ∷ o) (open-at i q ∷ n) k v h t ne e =
     let d : s .depth - 1 ≡ length o = omega (arith, h .depth-is) in
     let r : n ≡ o = t .round in
-    let x : Refused 10 q ≡ Refused 10 p = t .at-end in
-    let pq : p ≡ q = cc in
+    let pq : p ≡ q = sym (same-place (broken Rule.unclosed q) (broken Rule.unclosed p) (t .at-end)) in
     let l : length o ≡ length n = ap length (sym r) in
     let vi : v ≡ part-number i = e ∙ ap numberOf (sym (t .inside-is)) ∙ ap part-number (part-of-inside i) in
     record {

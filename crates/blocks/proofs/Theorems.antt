@@ -12,18 +12,18 @@ use mathlib.Core.List.{List, [], _∷_}
 use lib.ListN.{length}
 use lib.Dec.{ltb}
 use borrow.Author.Tests.{ltb-true}
+use Rattle.refusals.specs.declared.Refusal.{Refusal}
+use Rattle.refusals.specs.Table.{Rule, broken}
 use Rattle.blocks.specs.declared.item.Item.{Item}
 use Rattle.blocks.specs.declared.structure.Checked.the-variants.{Fine, Refused}
 use Rattle.blocks.specs.Code.{Code}
 use Rattle.blocks.specs.Scan.{nesting, Part, before, after, looping, Open, open-at, over, go, stray, in-loop, ended, react, carry, run, checkOf}
 use Rattle.blocks.specs.OpenAt.{there, openAt}
+use Rattle.blocks.proofs.Refusing.{refused-not-fine}
 use Rattle.blocks.proofs.Widths.{Ok, Fits}
 use Rattle.blocks.proofs.Passes.{step-in, run-step, run-to, run-past}
 use Rattle.blocks.proofs.Induction.{along, open-at-start, going-on, found-within}
 use Rattle.blocks.proofs.Openers.{going-back}
-
-pub refused-not-fine : {A : Type 0} (n p : ℕ) → Refused n p ≡ Fine → A
-refused-not-fine n p e = let z : _≡_ {A = ℕ} 0 1 = cc in absurd (omega arith)
 
 -- WHERE AN INSTRUCTION MAY STAND AND LEAD, with these blocks open. Where it would be stray there is no proof.
 
@@ -57,7 +57,7 @@ Allowed code Item.Endif at o = EndifAllowed code at o
 Allowed code Item.Loop at o = (length o < nesting) × (openAt code (at + 1) ≡ there (open-at looping at ∷ o))
 Allowed code Item.Jump at o = (in-loop o ≡ true) × (openAt code (at + 1) ≡ there o)
 Allowed code Item.Endloop at o = EndloopAllowed code at o
-Allowed code (Item.Bad n) at o = ⊥
+Allowed code (Item.Bad r) at o = ⊥
 
 -- a later place that the pass comes by
 record Onwards (code : Code) (at : ℕ) : Type 0 where
@@ -83,7 +83,7 @@ onwards-from code Item.Endloop at [] ok a = absurd a
 onwards-from code Item.Endloop at (open-at before p ∷ o) ok a = absurd a
 onwards-from code Item.Endloop at (open-at after p ∷ o) ok a = absurd a
 onwards-from code Item.Endloop at (open-at looping p ∷ o) ok a = record { place = at + 1; blocks = o; later = omega arith; found = a .0 }
-onwards-from code (Item.Bad n) at o ok a = absurd a
+onwards-from code (Item.Bad r) at o ok a = absurd a
 
 module _ (code : Code) (fits : Fits code) (checked : checkOf code ≡ Fine) where
   -- from wherever the pass comes by, the rest of it is fine
@@ -95,41 +95,41 @@ module _ (code : Code) (fits : Fits code) (checked : checkOf code ≡ Fine) wher
     leads : (i : Item) (o : List Open) (a : ℕ) (q : List Open) → code .item at ≡ i → openAt code at ≡ there o → react i at o ≡ go a q → openAt code a ≡ there q
     leads i o a q e here f = going-on code fits at o a q here (step-in code at o h ∙ ap (λ (j : Item). react j at o) e ∙ f)
 
-    refused : {A : Type 0} (i : Item) (o : List Open) (n : ℕ) → code .item at ≡ i → openAt code at ≡ there o → react i at o ≡ over (Refused n at) → A
-    refused i o n e here f =
-        refused-not-fine n at
-        (sym (run-to code fits at o (over (Refused n at)) h (ap (λ (j : Item). react j at o) e ∙ f)) ∙ fine-from at o here)
+    refused : {A : Type 0} (i : Item) (o : List Open) (r : Refusal) → code .item at ≡ i → openAt code at ≡ there o → react i at o ≡ over (Refused r) → A
+    refused i o r e here f =
+        refused-not-fine r
+        (sym (run-to code fits at o (over (Refused r)) h (ap (λ (j : Item). react j at o) e ∙ f)) ∙ fine-from at o here)
 
     opener-allowed : (i : Item) (part : Part) (o : List Open) → code .item at ≡ i → openAt code at ≡ there o → (b : Bool) → ltb (length o) nesting ≡ b
-        → react i at o ≡ cond b (go (at + 1) (open-at part at ∷ o)) (over (Refused 9 at)) → (length o < nesting) × (openAt code (at + 1) ≡ there (open-at part at ∷ o))
+        → react i at o ≡ cond b (go (at + 1) (open-at part at ∷ o)) (over (Refused (broken Rule.depth at))) → (length o < nesting) × (openAt code (at + 1) ≡ there (open-at part at ∷ o))
     opener-allowed i part o e here true b f = (ltb-true (length o) nesting b, leads i o (at + 1) (open-at part at ∷ o) e here f)
-    opener-allowed i part o e here false b f = refused i o 9 e here f
+    opener-allowed i part o e here false b f = refused i o _ e here f
 
     jump-allowed : (o : List Open) → code .item at ≡ Item.Jump → openAt code at ≡ there o → (b : Bool) → in-loop o ≡ b
         → react Item.Jump at o ≡ cond b (go (at + 1) o) (stray at) → (in-loop o ≡ true) × (openAt code (at + 1) ≡ there o)
     jump-allowed o e here true b f = (b, leads Item.Jump o (at + 1) o e here f)
-    jump-allowed o e here false b f = refused Item.Jump o 8 e here f
+    jump-allowed o e here false b f = refused Item.Jump o _ e here f
 
     item-allowed : (i : Item) (o : List Open) → code .item at ≡ i → openAt code at ≡ there o → Allowed code i at o
     unfolding react
     item-allowed (Item.Plain w) o e here = leads (Item.Plain w) o (at + w) o e here refl
     item-allowed Item.If o e here = opener-allowed Item.If before o e here (ltb (length o) nesting) refl refl
-    item-allowed Item.Else [] e here = refused Item.Else [] 8 e here refl
+    item-allowed Item.Else [] e here = refused Item.Else [] _ e here refl
     item-allowed Item.Else (open-at before p ∷ o) e here = leads Item.Else (open-at before p ∷ o) (at + 1) (open-at after p ∷ o) e here refl
-    item-allowed Item.Else (open-at after p ∷ o) e here = refused Item.Else (open-at after p ∷ o) 8 e here refl
-    item-allowed Item.Else (open-at looping p ∷ o) e here = refused Item.Else (open-at looping p ∷ o) 8 e here refl
-    item-allowed Item.Endif [] e here = refused Item.Endif [] 8 e here refl
+    item-allowed Item.Else (open-at after p ∷ o) e here = refused Item.Else (open-at after p ∷ o) _ e here refl
+    item-allowed Item.Else (open-at looping p ∷ o) e here = refused Item.Else (open-at looping p ∷ o) _ e here refl
+    item-allowed Item.Endif [] e here = refused Item.Endif [] _ e here refl
     item-allowed Item.Endif (open-at before p ∷ o) e here = leads Item.Endif (open-at before p ∷ o) (at + 1) o e here refl
     item-allowed Item.Endif (open-at after p ∷ o) e here = leads Item.Endif (open-at after p ∷ o) (at + 1) o e here refl
-    item-allowed Item.Endif (open-at looping p ∷ o) e here = refused Item.Endif (open-at looping p ∷ o) 8 e here refl
+    item-allowed Item.Endif (open-at looping p ∷ o) e here = refused Item.Endif (open-at looping p ∷ o) _ e here refl
     item-allowed Item.Loop o e here = opener-allowed Item.Loop looping o e here (ltb (length o) nesting) refl refl
     item-allowed Item.Jump o e here = jump-allowed o e here (in-loop o) refl refl
-    item-allowed Item.Endloop [] e here = refused Item.Endloop [] 8 e here refl
-    item-allowed Item.Endloop (open-at before p ∷ o) e here = refused Item.Endloop (open-at before p ∷ o) 8 e here refl
-    item-allowed Item.Endloop (open-at after p ∷ o) e here = refused Item.Endloop (open-at after p ∷ o) 8 e here refl
+    item-allowed Item.Endloop [] e here = refused Item.Endloop [] _ e here refl
+    item-allowed Item.Endloop (open-at before p ∷ o) e here = refused Item.Endloop (open-at before p ∷ o) _ e here refl
+    item-allowed Item.Endloop (open-at after p ∷ o) e here = refused Item.Endloop (open-at after p ∷ o) _ e here refl
     item-allowed Item.Endloop (open-at looping p ∷ o) e here =
         (leads Item.Endloop (open-at looping p ∷ o) (at + 1) o e here refl, going-back code fits at p o here)
-    item-allowed (Item.Bad n) o e here = refused (Item.Bad n) o n e here refl
+    item-allowed (Item.Bad r) o e here = refused (Item.Bad r) o r e here refl
 
   -- EACH INSTRUCTION of checked code that the pass comes by stands where it may, and leads to where the pass has the blocks that it leaves open
   pub allowed : (at : ℕ) (o : List Open) → openAt code at ≡ there o → at < code .size → Allowed code (code .item at) at o
@@ -138,7 +138,7 @@ module _ (code : Code) (fits : Fits code) (checked : checkOf code ≡ Fine) wher
   none-of-fine : (o : List Open) → ended o ≡ Fine → o ≡ []
   unfolding ended
   none-of-fine [] e = refl
-  none-of-fine (open-at part p ∷ o) e = refused-not-fine 10 p e
+  none-of-fine (open-at part p ∷ o) e = refused-not-fine (broken Rule.unclosed p) e
 
   ended-at : (at : ℕ) (o : List Open) → at ≡ code .size → openAt code at ≡ there o → openAt code (code .size) ≡ there []
   ended-at at o e here =

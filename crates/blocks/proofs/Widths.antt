@@ -5,6 +5,7 @@ use mathlib.Core.Path.{_≡_, refl, ap, _∙_}
 use mathlib.Core.Bool.{Bool, true, false, cond}
 use mathlib.Core.List.{List}
 use lib.ListN.{length, take, drop, length-take, length-drop}
+use Rattle.refusals.specs.Table.{Rule, broken}
 use Rattle.instructions.specs.declared.instr.ControlOp.{ControlOp}
 use Rattle.instructions.specs.declared.instr.Instr.{Instr}
 use Rattle.words.specs.declared.fetching.ControlIn.{ControlIn}
@@ -29,7 +30,7 @@ Ok at size Item.Endif = Unit {0}
 Ok at size Item.Loop = Unit {0}
 Ok at size Item.Jump = Unit {0}
 Ok at size Item.Endloop = Unit {0}
-Ok at size (Item.Bad n) = Unit {0}
+Ok at size (Item.Bad r) = Unit {0}
 
 abbrev pub Fits : Code → Type 0
 Fits code = (at : ℕ) → at < code .size → Ok at (code .size) (code .item at)
@@ -62,13 +63,13 @@ cond-ok : (at size : ℕ) (b : Bool) (x y : Item) → Ok at size x → Ok at siz
 cond-ok at size true x y p q = p
 cond-ok at size false x y p q = q
 
-seen-ok : (words : List ℕ) (registers at : ℕ) (a : ReadAnswer) → readAt words at ≡ a → Ok at (length words) (seen registers a)
+seen-ok : (words : List ℕ) (registers at : ℕ) (a : ReadAnswer) → readAt words at ≡ a → Ok at (length words) (seen registers at a)
 seen-ok words registers at (ReadAnswer.Read i n) e =
     let w = read-wide words at i n e in
     let some = size-positive (limitsOf (i .op) .second) in
-    cond-ok at (length words) (registersBelow registers i) (itemOf (i .op) n) (Item.Bad 7)
+    cond-ok at (length words) (registersBelow registers i) (itemOf (i .op) n) (Item.Bad (broken Rule.register at))
     (item-ok at (length words) n (controlIn (i .op)) (omega (arith, w .0, some)) (w .1)) tt
-seen-ok words registers at (ReadAnswer.Refused n p) e = tt
+seen-ok words registers at (ReadAnswer.Refused r) e = tt
 
 pub code-fits : (words : List ℕ) (registers : ℕ) → Fits (codeOf words registers)
 unfolding itemAt

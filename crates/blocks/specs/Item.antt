@@ -1,7 +1,8 @@
--- What the blocks see of an instruction: plain with a width, one of the block instructions, or refused with a number.
+-- What the blocks see of an instruction: plain with a width, one of the block instructions, or refused.
 use Prim.Native.Nat.{ℕ}
 use mathlib.Core.Bool.{cond}
 use mathlib.Core.List.{List}
+use Rattle.refusals.specs.Table.{Rule, broken}
 use Rattle.instructions.specs.declared.instr.ControlOp.{ControlOp}
 use Rattle.instructions.specs.declared.instr.Op.{Op}
 use Rattle.words.specs.declared.fetching.ControlIn.{ControlIn}
@@ -32,11 +33,12 @@ itemBy ControlIn.Other width = Item.Plain width
 abbrev pub itemOf : Op → ℕ → Item
 itemOf op width = itemBy (controlIn op) width
 
--- what was read, for a number of registers: refusals 4 to 6 as they are, then 7
-abbrev pub seen : ℕ → ReadAnswer → Item
-seen registers (ReadAnswer.Read instr width) = cond (registersBelow registers instr) (itemOf (instr .op) width) (Item.Bad 7)
-seen registers (ReadAnswer.Refused number place) = Item.Bad number
+-- what was read at a place, for a number of registers: refusals 4 to 6 as they are, then 7
+abbrev pub seen : ℕ → ℕ → ReadAnswer → Item
+seen registers at (ReadAnswer.Read instr width) =
+    cond (registersBelow registers instr) (itemOf (instr .op) width) (Item.Bad (broken Rule.register at))
+seen registers at (ReadAnswer.Refused r) = Item.Bad r
 
 -- what stands at a place of the code
 unfoldable pub itemAt : List ℕ → ℕ → ℕ → Item
-itemAt code registers at = seen registers (readAt code at)
+itemAt code registers at = seen registers at (readAt code at)

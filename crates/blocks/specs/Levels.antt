@@ -26,19 +26,19 @@ pub record Stands (room : ℕ) (inside : Inside) (in-a-loop : Bool) (o : List Op
 -- what the pass with the blocks o open comes to, from the answer for their innermost
 abbrev pub follows : Code → List Open → LevelEnd → Checked
 follows code o (LevelEnd.Closed at) = run code at (around o)
-follows code o (LevelEnd.Refused number place) = Checked.Refused number place
+follows code o (LevelEnd.Refused r) = Checked.Refused r
 follows code o LevelEnd.Ended = ended o
 
 -- a block that was closed ends in the code
 abbrev pub Within : Code → ℕ → LevelEnd → Type 0
 Within code from (LevelEnd.Closed at) = (from ≤ at) × (at ≤ code .size)
-Within code from (LevelEnd.Refused number place) = Unit {0}
+Within code from (LevelEnd.Refused r) = Unit {0}
 Within code from LevelEnd.Ended = Unit {0}
 
 -- and is a block: where none is open there is nothing to close
 abbrev pub Shut : List Open → LevelEnd → Type 0
 Shut o (LevelEnd.Closed at) = o ≡ [] → ⊥
-Shut o (LevelEnd.Refused number place) = Unit {0}
+Shut o (LevelEnd.Refused r) = Unit {0}
 Shut o LevelEnd.Ended = Unit {0}
 
 -- what `level` promises

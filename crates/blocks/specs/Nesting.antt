@@ -4,9 +4,10 @@ use mathlib.Core.Path.{_≡_}
 use mathlib.Core.Bool.{Bool, true, false}
 use mathlib.Core.List.{List, [], _∷_}
 use lib.ListN.{length}
+use Rattle.refusals.specs.declared.Refusal.{Refusal}
+use Rattle.refusals.specs.Table.{Rule, broken}
 use Rattle.instructions.specs.declared.instr.Instr.{Instr}
 use Rattle.words.specs.Layout.{wordsOf}
-use Rattle.words.specs.Refusals.{Rule, numberOf}
 use Rattle.instructions.specs.Registers.{Past}
 use Rattle.words.specs.Rules.{Stands, Breaks}
 use Rattle.blocks.specs.declared.item.Item.{Item}
@@ -61,23 +62,23 @@ innermost (open-at part p ∷ o) = insideOf part
 
 -- The first of the rules 4 to 7 that the words at a place break by themselves, whatever blocks are open: one of reading an instruction; or an
 -- instruction stands there, and a register of it is R or more.
-pub data Alone (code : List ℕ) (R at : ℕ) : ℕ → Type 0 where
-  in-words : (rule : Rule) → Breaks code at rule → Alone code R at (numberOf rule)
-  register-past : (x : Instr) → Stands code at x → Past R x → Alone code R at 7
+pub data Alone (code : List ℕ) (R at : ℕ) : Refusal → Type 0 where
+  in-words : {r : Refusal} → Breaks code at r → Alone code R at r
+  register-past : (x : Instr) → Stands code at x → Past R x → Alone code R at (broken Rule.register at)
 
--- An instruction breaks a rule of blocks, with these open: 8, where it is stray; 9, where no room is left.
-pub data Misplaced (o : List Open) : Item → ℕ → Type 0 where
-  stray-else : (innermost o ≡ Inside.Before → ⊥) → Misplaced o Item.Else 8
-  stray-endif : (innermost o ≡ Inside.Before → ⊥) → (innermost o ≡ Inside.After → ⊥) → Misplaced o Item.Endif 8
-  stray-endloop : (innermost o ≡ Inside.Loop → ⊥) → Misplaced o Item.Endloop 8
-  stray-jump : in-loop o ≡ false → Misplaced o Item.Jump 8
-  deep-if : length o ≡ nesting → Misplaced o Item.If 9
-  deep-loop : length o ≡ nesting → Misplaced o Item.Loop 9
+-- An instruction at a place breaks a rule of blocks, with these open: it is stray, or no room is left.
+pub data Misplaced (o : List Open) (at : ℕ) : Item → Refusal → Type 0 where
+  stray-else : (innermost o ≡ Inside.Before → ⊥) → Misplaced o at Item.Else (broken Rule.stray at)
+  stray-endif : (innermost o ≡ Inside.Before → ⊥) → (innermost o ≡ Inside.After → ⊥) → Misplaced o at Item.Endif (broken Rule.stray at)
+  stray-endloop : (innermost o ≡ Inside.Loop → ⊥) → Misplaced o at Item.Endloop (broken Rule.stray at)
+  stray-jump : in-loop o ≡ false → Misplaced o at Item.Jump (broken Rule.stray at)
+  deep-if : length o ≡ nesting → Misplaced o at Item.If (broken Rule.depth at)
+  deep-loop : length o ≡ nesting → Misplaced o at Item.Loop (broken Rule.depth at)
 
--- The first rule that the code breaks, for R registers, and its place: that of an instruction, with nothing broken before it, which breaks a
--- rule by its words alone, or a rule of blocks; or a block open at the end, the place of the innermost opener.
-pub data Broken (code : List ℕ) (R : ℕ) : ℕ → ℕ → Type 0 where
-  at-words : {room number at : ℕ} {o : List Open} → Opened code R room o at → at < length code → Alone code R at number → Broken code R number at
-  at-instruction : {room number at : ℕ} {o : List Open} {item : Item} → Opened code R room o at → Has code R at item → Misplaced o item number
-      → Broken code R number at
-  at-end : {room p : ℕ} {part : Part} {o : List Open} → Opened code R room (open-at part p ∷ o) (length code) → Broken code R 10 p
+-- The first rule that the code breaks, for R registers: that of an instruction, with nothing broken before it, which breaks a rule by its
+-- words alone, or a rule of blocks; or a block open at the end, at the place of the innermost opener.
+pub data Broken (code : List ℕ) (R : ℕ) : Refusal → Type 0 where
+  at-words : {room at : ℕ} {r : Refusal} {o : List Open} → Opened code R room o at → at < length code → Alone code R at r → Broken code R r
+  at-instruction : {room at : ℕ} {r : Refusal} {o : List Open} {item : Item} → Opened code R room o at → Has code R at item → Misplaced o at item r
+      → Broken code R r
+  at-end : {room p : ℕ} {part : Part} {o : List Open} → Opened code R room (open-at part p ∷ o) (length code) → Broken code R (broken Rule.unclosed p)

@@ -6,6 +6,7 @@ use mathlib.Core.Bool.{Bool, true, false, cond}
 use mathlib.Core.List.{List, [], _∷_}
 use lib.ListN.{length}
 use lib.Dec.{ltb}
+use Rattle.refusals.specs.Table.{Rule, broken}
 use Rattle.blocks.specs.declared.item.Item.{Item}
 use Rattle.blocks.specs.declared.structure.Checked.{Checked}
 use Rattle.blocks.specs.declared.structure.Checked.the-variants.{Fine, Refused}
@@ -32,11 +33,11 @@ pub data Next : Type 0 where
 
 -- refusal 8: a stray ELSE, ENDIF, ENDLOOP, BREAK or CONTINUE
 abbrev pub stray : ℕ → Next
-stray at = over (Refused 8 at)
+stray at = over (Refused (broken Rule.stray at))
 
 -- IF and LOOP open a block; refusal 9: a 33rd
 abbrev pub opens : Part → ℕ → List Open → Next
-opens part at o = cond (ltb (length o) nesting) (go (at + 1) (open-at part at ∷ o)) (over (Refused 9 at))
+opens part at o = cond (ltb (length o) nesting) (go (at + 1) (open-at part at ∷ o)) (over (Refused (broken Rule.depth at)))
 
 -- ELSE stands directly in its IF, once
 abbrev pub elses : ℕ → List Open → Next
@@ -79,12 +80,12 @@ react Item.Endif at o = ends-if at o
 react Item.Loop at o = opens looping at o
 react Item.Jump at o = jumps at o
 react Item.Endloop at o = ends-loop at o
-react (Item.Bad number) at o = over (Refused number at)
+react (Item.Bad r) at o = over (Refused r)
 
 -- the end of the code; refusal 10: a block is open there
 unfoldable pub ended : List Open → Checked
 ended [] = Fine
-ended (open-at part p ∷ o) = Refused 10 p
+ended (open-at part p ∷ o) = Refused (broken Rule.unclosed p)
 
 unfoldable pub step : Code → ℕ → List Open → Next
 step code at o = cond (ltb at (code .size)) (react (code .item at) at o) (over (ended o))

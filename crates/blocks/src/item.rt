@@ -1,6 +1,8 @@
 // What the blocks see of an instruction. No other part of this crate looks at a word.
 use instructions::instr::ControlOp;
 use instructions::instr::Op;
+use refusals::REGISTER;
+use refusals::Refusal;
 use words::fetching::ControlIn;
 use words::fetching::control_in;
 use words::reading::ReadAnswer;
@@ -16,11 +18,8 @@ pub enum Item {
     Loop,
     Jump,
     Endloop,
-    Bad(u32),
+    Bad(Refusal),
 }
-
-// The rule of register numbers, by its number.
-const REGISTER: u32 = 7;
 
 // What a control instruction is to the blocks.
 fn control_item(op: ControlOp) -> Item
@@ -62,9 +61,12 @@ pub fn look(code: &[u32], registers: u32, at: usize) -> Item
                 let op = instr.op;
                 item_of(op, words)
             } else {
-                Item::Bad(REGISTER)
+                Item::Bad(Refusal {
+                    number: REGISTER,
+                    place: at,
+                })
             }
         }
-        ReadAnswer::Refused { number, place: _ } => Item::Bad(number),
+        ReadAnswer::Refused(refusal) => Item::Bad(refusal),
     }
 }

@@ -162,7 +162,7 @@ fn advance(code: &[u32], registers: u32, at: usize, s: Stack) -> Moved
     let loops = s.loops;
     let depth = s.depth;
     let room = NESTING - depth;
-    let turn = rules::judge(item, room, part, 0 < loops);
+    let turn = rules::judge(item, at, room, part, 0 < loops);
     match turn {
         Turn::Go(width, next) => {
             let after = turned_to(s, next);

@@ -1,12 +1,10 @@
 // The rules of blocks, for one instruction at one level of nesting.
 use crate::item::Item;
+use refusals::DEPTH;
+use refusals::Refusal;
+use refusals::STRAY;
 ghost use mathlib.Core.Path.{_≡_};
 ghost use Rattle.blocks.specs.Rules.{opening, atElse, atEndif, atEndloop, turnOf};
-
-// The rules of stray instructions and of depth, by their numbers.
-const STRAY: u32 = 8;
-
-const DEPTH: u32 = 9;
 
 // What an instruction stands directly inside: no block, an IF before its ELSE, an IF after it, a loop.
 pub enum Inside {
@@ -22,72 +20,79 @@ pub enum Turn {
     Go(usize, Inside),
     Close,
     Enter(Inside, bool),
-    Stop(u32),
+    Stop(Refusal),
 }
 
 // IF and LOOP: no 33rd open block.
-fn at_opener(room: usize, inside: Inside, in_loop: bool) -> Turn
-    ensures { λ r. ⌜ r ≡ opening room inside in_loop ⌝ }
+fn at_opener(at: usize, room: usize, inside: Inside, in_loop: bool) -> Turn
+    ensures { λ r. ⌜ r ≡ opening at room inside in_loop ⌝ }
 {
     if room == 0 {
-        Turn::Stop(DEPTH)
+        Turn::Stop(Refusal {
+            number: DEPTH,
+            place: at,
+        })
     } else {
         Turn::Enter(inside, in_loop)
     }
 }
 
 // ELSE: once, directly in its IF.
-fn at_else(inside: Inside) -> Turn
-    ensures { λ r. ⌜ r ≡ atElse inside ⌝ }
+fn at_else(stray: Refusal, inside: Inside) -> Turn
+    ensures { λ r. ⌜ r ≡ atElse stray inside ⌝ }
 {
     match inside {
-        Inside::Nothing => Turn::Stop(STRAY),
+        Inside::Nothing => Turn::Stop(stray),
         Inside::Before => Turn::Go(1, Inside::After),
-        Inside::After => Turn::Stop(STRAY),
-        Inside::Loop => Turn::Stop(STRAY),
+        Inside::After => Turn::Stop(stray),
+        Inside::Loop => Turn::Stop(stray),
     }
 }
 
 // ENDIF: directly in an IF.
-fn at_endif(inside: Inside) -> Turn
-    ensures { λ r. ⌜ r ≡ atEndif inside ⌝ }
+fn at_endif(stray: Refusal, inside: Inside) -> Turn
+    ensures { λ r. ⌜ r ≡ atEndif stray inside ⌝ }
 {
     match inside {
-        Inside::Nothing => Turn::Stop(STRAY),
+        Inside::Nothing => Turn::Stop(stray),
         Inside::Before => Turn::Close,
         Inside::After => Turn::Close,
-        Inside::Loop => Turn::Stop(STRAY),
+        Inside::Loop => Turn::Stop(stray),
     }
 }
 
 // ENDLOOP: directly in a loop.
-fn at_endloop(inside: Inside) -> Turn
-    ensures { λ r. ⌜ r ≡ atEndloop inside ⌝ }
+fn at_endloop(stray: Refusal, inside: Inside) -> Turn
+    ensures { λ r. ⌜ r ≡ atEndloop stray inside ⌝ }
 {
     match inside {
-        Inside::Nothing => Turn::Stop(STRAY),
-        Inside::Before => Turn::Stop(STRAY),
-        Inside::After => Turn::Stop(STRAY),
+        Inside::Nothing => Turn::Stop(stray),
+        Inside::Before => Turn::Stop(stray),
+        Inside::After => Turn::Stop(stray),
         Inside::Loop => Turn::Close,
     }
 }
 
-// One instruction, where so much room is left, directly inside this, and in a loop or not.
-pub(crate) fn judge(item: Item, room: usize, inside: Inside, in_loop: bool) -> Turn
-    ensures { λ r. ⌜ r ≡ turnOf item room inside in_loop ⌝ }
+// One instruction at a place, where so much room is left, directly inside this, and in a loop or not.
+pub(crate) fn judge(item: Item, at: usize, room: usize, inside: Inside, in_loop: bool) -> Turn
+    ensures { λ r. ⌜ r ≡ turnOf item at room inside in_loop ⌝ }
 {
+    let stray = Refusal {
+        number: STRAY,
+        place: at,
+    };
     match item {
         Item::Plain(width) => Turn::Go(width, inside),
-        Item::If => at_opener(room, Inside::Before, in_loop),
-        Item::Else => at_else(inside),
-        Item::Endif => at_endif(inside),
-        Item::Loop => at_opener(room, Inside::Loop, true),
+        Item::If => at_opener(at, room, Inside::Before, in_loop),
+        Item::Else => at_else(stray, inside),
+        Item::Endif => at_endif(stray, inside),
+        Item::Loop => at_opener(at, room, Inside::Loop, true),
         Item::Jump => if in_loop {
             Turn::Go(1, inside)
         } else {
-            Turn::Stop(STRAY)
+            Turn::Stop(stray)
         },
-        Item::Endloop => at_endloop(inside),
-        Item::Bad(number) => Turn::Stop(number),
+        Item::Endloop => at_endloop(stray, inside),
+        Item::Bad(refusal) => Turn::Stop(refusal),
     }
 }

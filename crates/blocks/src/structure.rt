@@ -3,6 +3,8 @@ use crate::item;
 use crate::rules;
 use crate::rules::Inside;
 use crate::rules::Turn;
+use refusals::Refusal;
+use refusals::UNCLOSED;
 ghost use mathlib.Core.Path.{_≡_};
 ghost use Prim.Native.Nat.{_≤_};
 ghost use lib.ListN.{length};
@@ -13,20 +15,17 @@ ghost use Rattle.blocks.specs.Levels.{LevelSays};
 // The room for nesting.
 pub const NESTING: usize = 32;
 
-// The rule of blocks that are open at the end, by its number.
-const UNCLOSED: u32 = 10;
-
-// How a level ends: closed, with the place after its end; refused, with the rule's number and the place; or by the end of the code.
+// How a level ends: closed, with the place after its end; refused; or by the end of the code.
 pub enum LevelEnd {
     Closed(usize),
-    Refused(u32, usize),
+    Refused(Refusal),
     Ended,
 }
 
-// Whether code passes, or the number of the first broken rule and its place.
+// Whether code passes, or the refusal of the first broken rule.
 pub enum Checked {
     Fine,
-    Refused(u32, usize),
+    Refused(Refusal),
 }
 
 // One level, from a place on, where so much room is left. A block opened in it is checked by a call of this function, with one less of room.
@@ -45,17 +44,18 @@ fn level(
     let mut part = inside;
     while at < code.len() {
         let item = item::look(code, registers, at);
-        let turn = rules::judge(item, room, part, in_loop);
+        let turn = rules::judge(item, at, room, part, in_loop);
         match turn {
             Turn::Go(width, next) => {
                 at = at + width;
                 part = next;
             }
             Turn::Close => {
-                return LevelEnd::Closed(at + 1);
+                let after = at + 1;
+                return LevelEnd::Closed(after);
             }
-            Turn::Stop(number) => {
-                return LevelEnd::Refused(number, at);
+            Turn::Stop(refusal) => {
+                return LevelEnd::Refused(refusal);
             }
             Turn::Enter(inner, looped) => {
                 let end = level(code, registers, at + 1, room - 1, inner, looped);
@@ -63,11 +63,14 @@ fn level(
                     LevelEnd::Closed(next) => {
                         at = next;
                     }
-                    LevelEnd::Refused(number, place) => {
-                        return LevelEnd::Refused(number, place);
+                    LevelEnd::Refused(refusal) => {
+                        return LevelEnd::Refused(refusal);
                     }
                     LevelEnd::Ended => {
-                        return LevelEnd::Refused(UNCLOSED, at);
+                        return LevelEnd::Refused(Refusal {
+                            number: UNCLOSED,
+                            place: at,
+                        });
                     }
                 }
             }
@@ -84,7 +87,7 @@ pub fn check(code: &[u32], registers: u32) -> Checked
     let end = level(code, registers, 0, NESTING, Inside::Nothing, false);
     match end {
         LevelEnd::Closed(_) => Checked::Fine,
-        LevelEnd::Refused(number, place) => Checked::Refused(number, place),
+        LevelEnd::Refused(refusal) => Checked::Refused(refusal),
         LevelEnd::Ended => Checked::Fine,
     }
 }

@@ -7,6 +7,7 @@ use native.Mathlib.Omega.{arith}
 use borrow.Author.Tests.{le-leb, lt-leb}
 use lib.ListN.{length, take, drop, length-append}
 use lib.Seq.{take-append-seam, length-take-le}
+use Rattle.refusals.specs.declared.Refusal.{Refusal}
 use Rattle.ground.proofs.Tests.{false-of}
 use Rattle.numbers.specs.Numbers.{bytesOf, bytesOfAll, bound, Small}
 use Rattle.numbers.specs.Placed.{placed}
@@ -175,6 +176,6 @@ module _ (kernel : ℕ) (r : Replayed) (out : List ℕ) where
   unfolding keyOf outcomeKey
   key-budget e = ap (λ (o : Outcome). outcomeKey kernel o (r .state) out) (sym e)
 
-  pub key-refused : (number place : ℕ) → r .outcome ≡ Outcome.Refused number place → keyed (Refused notOfLayout 0) out ≡ keyOf kernel r out
+  pub key-refused : (q : Refusal) → r .outcome ≡ Outcome.Refused q → keyed (Refused notOfLayout 0) out ≡ keyOf kernel r out
   unfolding keyOf outcomeKey
-  key-refused number place e = ap (λ (o : Outcome). outcomeKey kernel o (r .state) out) (sym e)
+  key-refused q e = ap (λ (o : Outcome). outcomeKey kernel o (r .state) out) (sym e)

@@ -59,15 +59,15 @@ module _ (kernel : ℕ) (r : Replayed) (out : List ℕ) where
       broken-as notOfLayout n p (no-fault (λ f. unlike Outcome.Ended f h (λ z. (let y : _≡_ {A = ℕ} 0 1 = cc in omega arith)))) e
   tested n p Outcome.OutOfBudget h e =
       broken-as notOfLayout n p (no-fault (λ f. unlike Outcome.OutOfBudget f h (λ z. (let y : _≡_ {A = ℕ} 0 1 = cc in omega arith)))) e
-  tested n p (Outcome.Refused k q) h e =
-      broken-as notOfLayout n p (no-fault (λ f. unlike (Outcome.Refused k q) f h (λ z. (let y : _≡_ {A = ℕ} 0 1 = cc in omega arith)))) e
+  tested n p (Outcome.Refused q) h e =
+      broken-as notOfLayout n p (no-fault (λ f. unlike (Outcome.Refused q) f h (λ z. (let y : _≡_ {A = ℕ} 0 1 = cc in omega arith)))) e
 
   not-keyed : (o : Outcome) → ((f : Faults) → o ≡ Outcome.Fault f → ⊥) → outcomeKey kernel o (r .state) out .answer ≡ Refused notOfLayout 0
   unfolding outcomeKey
   not-keyed (Outcome.Fault f) g = absurd (g f refl)
   not-keyed Outcome.Ended g = refl
   not-keyed Outcome.OutOfBudget g = refl
-  not-keyed (Outcome.Refused k q) g = refl
+  not-keyed (Outcome.Refused q) g = refl
 
   of-fault : (f : Faults) → r .outcome ≡ Outcome.Fault f → keyOf kernel r out .answer ≡ bodyKey (parts f) out .answer
   unfolding keyOf outcomeKey

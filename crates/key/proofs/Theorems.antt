@@ -68,7 +68,7 @@ unfolding outcomeKey
 outcome-key kernel n r now out (Outcome.Fault f) h e = record { faults = f; outcome = h; key = body-key (partsOf kernel f (r .state)) n now out e }
 outcome-key kernel n r now out Outcome.Ended h e = absurd (not-written n notOfLayout 0 now out e)
 outcome-key kernel n r now out Outcome.OutOfBudget h e = absurd (not-written n notOfLayout 0 now out e)
-outcome-key kernel n r now out (Outcome.Refused number place) h e = absurd (not-written n notOfLayout 0 now out e)
+outcome-key kernel n r now out (Outcome.Refused q) h e = absurd (not-written n notOfLayout 0 now out e)
 
 -- THEOREM: only a fault has a key, and what was written is its body
 pub key-written : (kernel n : ℕ) (r : Replayed) (now out : List ℕ) → keyed (Wrote n) now ≡ keyOf kernel r out → Keyed kernel r n now
@@ -96,7 +96,7 @@ module _ (n q : ℕ) (out : List ℕ) where
   outcome-keeps kernel (Outcome.Fault f) s e = body-keeps (partsOf kernel f s) e
   outcome-keeps kernel Outcome.Ended s e = refl
   outcome-keeps kernel Outcome.OutOfBudget s e = refl
-  outcome-keeps kernel (Outcome.Refused k p) s e = refl
+  outcome-keeps kernel (Outcome.Refused q) s e = refl
 
   -- THEOREM: a refusal leaves the output as lent
   pub refused-keeps : (kernel : ℕ) (r : Replayed) → keyOf kernel r out .answer ≡ Refused n q → keyOf kernel r out .out ≡ out

@@ -59,7 +59,7 @@ unfoldable pub outcomeKey : ℕ → Outcome → State → List ℕ → Keying
 outcomeKey kernel (Outcome.Fault f) s out = bodyKey (partsOf kernel f s) out
 outcomeKey kernel Outcome.Ended s out = keyed (Refused notOfLayout 0) out
 outcomeKey kernel Outcome.OutOfBudget s out = keyed (Refused notOfLayout 0) out
-outcomeKey kernel (Outcome.Refused number place) s out = keyed (Refused notOfLayout 0) out
+outcomeKey kernel (Outcome.Refused r) s out = keyed (Refused notOfLayout 0) out
 
 -- the key of what a run answered
 unfoldable pub keyOf : ℕ → Replayed → List ℕ → Keying

@@ -55,6 +55,6 @@ pub fn write_key(kernel: u32, answer: Replayed, out: &mut [u8]) -> KeyAnswer
         Outcome::Fault(f) => write_fault(kernel, f, state, out),
         Outcome::Ended => KeyAnswer::Refused(NOT_OF_LAYOUT, 0),
         Outcome::OutOfBudget => KeyAnswer::Refused(NOT_OF_LAYOUT, 0),
-        Outcome::Refused { number, place } => KeyAnswer::Refused(NOT_OF_LAYOUT, 0),
+        Outcome::Refused(_) => KeyAnswer::Refused(NOT_OF_LAYOUT, 0),
     }
 }

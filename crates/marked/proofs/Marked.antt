@@ -50,7 +50,7 @@ stops : (o : Outcome) (r x : Ran) → (o ≡ OutOfBudget → ⊥) → following 
 stops Outcome.Ended r x f = refl
 stops Outcome.OutOfBudget r x f = absurd (f refl)
 stops (Outcome.Fault e) r x f = refl
-stops (Outcome.Refused n p) r x f = refl
+stops (Outcome.Refused q) r x f = refl
 
 module _ (s : Settings) (code : List ℕ) (l : Launchable s code) (regs device local : List ℕ) (b : ℕ) where
   abbrev m : Machine

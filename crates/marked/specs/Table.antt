@@ -7,6 +7,7 @@ use lib.ListN.{length, getD, take}
 use Rattle.instructions.specs.declared.instr.TwoOp.{TwoOp}
 use Rattle.instructions.specs.declared.instr.ControlOp.{ControlOp}
 use Rattle.instructions.specs.declared.instr.Op.{Op}
+use Rattle.refusals.specs.Table.{Rule, broken}
 use Rattle.words.specs.declared.reading.ReadAnswer.{ReadAnswer}
 use Rattle.words.specs.Layout.{instr}
 use Rattle.words.specs.Reading.{readAt}
@@ -74,7 +75,7 @@ ran Outcome.Ended W n R room a = ended (a .steps) (tabulate n (λ i. getD (a .re
 ran (Outcome.Fault f) W n R room a =
     faulted (a .steps) (written (keyOf 7 (record { outcome = a .outcome; steps = a .steps; state = a .state }) room))
 ran Outcome.OutOfBudget W n R room a = stopped
-ran (Outcome.Refused number place) W n R room a = stopped
+ran (Outcome.Refused r) W n R room a = stopped
 
 abbrev pub launched : ℕ → ℕ → ℕ → List ℕ → Answered → Answer
 launched W n R room a = ran (a .outcome) W n R room a
@@ -105,8 +106,8 @@ abbrev one : Op → ℕ → Bool → ℕ → ℕ → ℕ → ℕ → ℕ → Ans
 one op pred negate rd rs1 rs2 number words =
     read (ReadAnswer.Read (instr op (record { pred = pred; negate = negate }) rd rs1 rs2 0 0 number) words)
 
-abbrev refusal : ℕ → Answer
-refusal number = read (ReadAnswer.Refused number 0)
+abbrev refusal : Rule → Answer
+refusal rule = read (ReadAnswer.Refused (broken rule 0))
 
 -- the words of T12, T13 and T14
 abbrev pub t12 : List ℕ
@@ -127,9 +128,9 @@ table =
     entry (reading (0x00030100 ∷ 0x02000000 ∷ [])) (one (Op.Two TwoOp.Add) 0 false 3 1 2 0 2)
     ∷ entry (reading (0xF1000000 ∷ 0x00000005 ∷ [])) (one Op.Number 0 false 0 0 0 5 2)
     ∷ entry (reading (0x3F000005 ∷ [])) (one (Op.Control ControlOp.If) 1 true 0 0 0 0 1)
-    ∷ entry (reading (0x3F000004 ∷ [])) (refusal 6)
+    ∷ entry (reading (0x3F000004 ∷ [])) (refusal Rule.field)
     ∷ entry (reading (0x3F000041 ∷ [])) (one (Op.Control ControlOp.Break) 1 false 0 0 0 0 1)
-    ∷ entry (reading (0x3F000070 ∷ [])) (refusal 4)
+    ∷ entry (reading (0x3F000070 ∷ [])) (refusal Rule.not-carried)
     -- T7 to T11
     ∷ entry (operation TwoOp.Div 0xFFFFFFF9 2) (value 0xFFFFFFFD)
     ∷ entry (operation TwoOp.Rem 0xFFFFFFF9 2) (value 0xFFFFFFFF)

@@ -12,7 +12,8 @@ use lib.Seq.{take-append-seam}
 use borrow.Author.Tests.{leb-true, leb-false, lt-leb}
 use Rattle.instructions.specs.declared.instr.Instr.{Instr}
 use Rattle.instructions.specs.Forms.{valid}
-use Rattle.words.specs.Refusals.{Rule, numberOf}
+use Rattle.refusals.specs.declared.Refusal.{Refusal}
+use Rattle.refusals.specs.Table.{Rule, broken}
 use Rattle.naming.specs.declared.TextAnswer.{TextAnswer}
 use Rattle.naming.specs.Text.{textOf}
 use Rattle.naming.specs.Lines.{instrOf}
@@ -21,8 +22,8 @@ use Rattle.naming.proofs.Theorems.{text-reads}
 
 -- every instruction and output has one of these
 data Outcome (i : Instr) (out : List ℕ) : Type 0 where
-  no-words : valid i ≡ false → textIn i out ≡ unwritten Rule.words out → Outcome i out
-  no-room : valid i ≡ true → length out < length (textOf i) → textIn i out ≡ unwritten Rule.room out → Outcome i out
+  no-words : valid i ≡ false → textIn i out ≡ unwritten Rule.no-words out → Outcome i out
+  no-room : valid i ≡ true → length out < length (textOf i) → textIn i out ≡ unwritten Rule.short out → Outcome i out
   wrote :
       valid i ≡ true → length (textOf i) ≤ length out →
       textIn i out ≡ written (TextAnswer.Wrote (length (textOf i))) (textOf i ++ drop (length (textOf i)) out) → Outcome i out
@@ -38,13 +39,13 @@ outcome i out = tested (valid i) refl
     tested true ok = fitted ok (leb (length (textOf i)) (length out)) refl
     tested false bad = Outcome.no-words bad (rw bad)
 
-one-number : {x : TextAnswer} {m n p q : ℕ} → x ≡ TextAnswer.Refused m p → x ≡ TextAnswer.Refused n q → m ≡ n
-one-number a b = cc
+one-refusal : {x : TextAnswer} {r q : Refusal} → x ≡ TextAnswer.Refused r → x ≡ TextAnswer.Refused q → r .number ≡ q .number
+one-refusal {r = r} {q = q} a b = let same : r ≡ q = cc in ap (λ (z : Refusal). z .number) same
 
 one-count : {x : TextAnswer} {m n : ℕ} → x ≡ TextAnswer.Wrote m → x ≡ TextAnswer.Wrote n → m ≡ n
 one-count a b = cc
 
-not-both : {x : TextAnswer} {m n p : ℕ} → x ≡ TextAnswer.Refused m p → x ≡ TextAnswer.Wrote n → ⊥
+not-both : {x : TextAnswer} {r : Refusal} {n : ℕ} → x ≡ TextAnswer.Refused r → x ≡ TextAnswer.Wrote n → ⊥
 not-both a b = let z : _≡_ {A = ℕ} 0 1 = cc in omega arith
 
 module _ (i : Instr) (out : List ℕ) where
@@ -52,22 +53,22 @@ module _ (i : Instr) (out : List ℕ) where
   answered f = ap (λ (x : Written). x .answer) f
 
   -- 12 exactly if no words give the instruction
-  pub no-words-give : (textIn i out .answer ≡ TextAnswer.Refused (numberOf Rule.words) 0) ↔ (valid i ≡ false)
+  pub no-words-give : (textIn i out .answer ≡ TextAnswer.Refused (broken Rule.no-words 0)) ↔ (valid i ≡ false)
   no-words-give = (λ e. forth e (outcome i out), λ bad. rw bad)
     where
-      forth : textIn i out .answer ≡ TextAnswer.Refused (numberOf Rule.words) 0 → Outcome i out → valid i ≡ false
+      forth : textIn i out .answer ≡ TextAnswer.Refused (broken Rule.no-words 0) → Outcome i out → valid i ≡ false
       forth e (Outcome.no-words bad f) = bad
-      forth e (Outcome.no-room ok h f) = let z = one-number e (answered f) in absurd (omega arith)
+      forth e (Outcome.no-room ok h f) = let z = one-refusal e (answered f) in absurd (omega arith)
       forth e (Outcome.wrote ok h f) = absurd (not-both e (answered f))
 
   -- 13 exactly if words give it and its text is longer than the output
   pub no-room-left :
-      (textIn i out .answer ≡ TextAnswer.Refused (numberOf Rule.room) 0) ↔ ((valid i ≡ true) × (length out < length (textOf i)))
+      (textIn i out .answer ≡ TextAnswer.Refused (broken Rule.short 0)) ↔ ((valid i ≡ true) × (length out < length (textOf i)))
   no-room-left = (λ e. forth e (outcome i out), λ h. rw (h .0, lt-leb (length (textOf i)) (length out) (h .1)))
     where
       forth :
-          textIn i out .answer ≡ TextAnswer.Refused (numberOf Rule.room) 0 → Outcome i out → (valid i ≡ true) × (length out < length (textOf i))
-      forth e (Outcome.no-words bad f) = let z = one-number e (answered f) in absurd (omega arith)
+          textIn i out .answer ≡ TextAnswer.Refused (broken Rule.short 0) → Outcome i out → (valid i ≡ true) × (length out < length (textOf i))
+      forth e (Outcome.no-words bad f) = let z = one-refusal e (answered f) in absurd (omega arith)
       forth e (Outcome.no-room ok h f) = (ok, h)
       forth e (Outcome.wrote ok h f) = absurd (not-both e (answered f))
 
@@ -85,8 +86,8 @@ module _ (i : Instr) (out : List ℕ) where
           (ok, same, rw same h, rw same (ap (λ (x : Written). x .after) f))
 
   -- a refusal leaves the output as lent
-  pub refused-keeps : (n p : ℕ) → textIn i out .answer ≡ TextAnswer.Refused n p → textIn i out .after ≡ out
-  refused-keeps n p e = by (outcome i out)
+  pub refused-keeps : (r : Refusal) → textIn i out .answer ≡ TextAnswer.Refused r → textIn i out .after ≡ out
+  refused-keeps r e = by (outcome i out)
     where
       by : Outcome i out → textIn i out .after ≡ out
       by (Outcome.no-words bad f) = ap (λ (x : Written). x .after) f

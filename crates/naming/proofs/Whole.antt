@@ -8,9 +8,9 @@ use native.Mathlib.Omega.{arith}
 use lib.ListN.{length, take, drop}
 use lib.Seq.{take-append-seam}
 use borrow.Author.Tests.{le-leb, lt-leb}
+use Rattle.refusals.specs.Table.{Rule}
 use Rattle.instructions.specs.declared.instr.Instr.{Instr}
 use Rattle.instructions.specs.Forms.{valid}
-use Rattle.words.specs.Refusals.{Rule}
 use Rattle.numbers.specs.Placed.{placed}
 use Rattle.numbers.proofs.Placing.{placed-front}
 use Rattle.naming.specs.declared.TextAnswer.{TextAnswer}
@@ -34,7 +34,7 @@ line-puts i {f} a s b p q t =
     let second = puts-same (ap joined b ∙ arranged-whole o f i s) q in
     puts-join first (puts-same (sym (operands-then (template o) i rest)) (puts-join second t))
 
-pub no-room : (t out : List ℕ) → length out < length t → unwritten Rule.room out ≡ putIn t out
+pub no-room : (t out : List ℕ) → length out < length t → unwritten Rule.short out ≡ putIn t out
 no-room t out h = rw (lt-leb _ _ h)
 
 pub put-room : (t out after : List ℕ) → length t ≤ length out → after ≡ placed out 0 t → written (TextAnswer.Wrote (length t)) after ≡ putIn t out
@@ -55,5 +55,5 @@ module _ (i : Instr) (ok : valid i ≡ true) (n : i .number < 2 ^ 32) where
 pub put-text : (i : Instr) (t out : List ℕ) → valid i ≡ true → t ≡ textOf i → putIn t out ≡ textIn i out
 put-text i t out ok e = rw (ok, e)
 
-pub not-valid : (i : Instr) (out : List ℕ) → valid i ≡ false → unwritten Rule.words out ≡ textIn i out
+pub not-valid : (i : Instr) (out : List ℕ) → valid i ≡ false → unwritten Rule.no-words out ≡ textIn i out
 not-valid i out bad = rw bad

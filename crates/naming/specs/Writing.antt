@@ -4,9 +4,9 @@ use mathlib.Core.List.{List, _++_}
 use Prim.Native.Nat.{ℕ}
 use lib.Dec.{leb}
 use lib.ListN.{length, drop}
+use Rattle.refusals.specs.Table.{Rule, broken}
 use Rattle.instructions.specs.declared.instr.Instr.{Instr}
 use Rattle.instructions.specs.Forms.{valid}
-use Rattle.words.specs.Refusals.{Rule, numberOf}
 use Rattle.naming.specs.declared.TextAnswer.{TextAnswer}
 use Rattle.naming.specs.Text.{textOf}
 
@@ -21,13 +21,13 @@ written answer after = record { answer = answer; after = after }
 
 -- a rule is broken
 abbrev pub unwritten : Rule → List ℕ → Written
-unwritten rule out = written (TextAnswer.Refused (numberOf rule) 0) out
+unwritten rule out = written (TextAnswer.Refused (broken rule 0)) out
 
 -- a text put at the start of an output that has room for it
 abbrev pub putIn : List ℕ → List ℕ → Written
 putIn t out =
-    cond (leb (length t) (length out)) (written (TextAnswer.Wrote (length t)) (t ++ drop (length t) out)) (unwritten Rule.room out)
+    cond (leb (length t) (length out)) (written (TextAnswer.Wrote (length t)) (t ++ drop (length t) out)) (unwritten Rule.short out)
 
 -- an instruction's text, if words give the instruction
 abbrev pub textIn : Instr → List ℕ → Written
-textIn i out = cond (valid i) (putIn (textOf i) out) (unwritten Rule.words out)
+textIn i out = cond (valid i) (putIn (textOf i) out) (unwritten Rule.no-words out)

@@ -13,24 +13,22 @@ use numbers::put_bytes;
 use operands::fields_of;
 use operands::operands_of;
 use pieces::put_pieces;
+use refusals::NO_WORDS;
+use refusals::Refusal;
+use refusals::SHORT;
 ghost use mathlib.Core.Path.{_≡_};
 ghost use Rattle.naming.specs.Pieces.{Puts};
 ghost use Rattle.naming.specs.Text.{textOf};
 ghost use Rattle.naming.specs.Writing.{written, putIn, textIn};
 
-// How many bytes were written; or the number and the place of a refusal.
+// How many bytes were written; or a refusal.
 pub enum TextAnswer {
     Wrote { bytes: usize },
-    Refused { number: u32, place: usize },
+    Refused(Refusal),
 }
 
 // A buffer of this length holds every text.
 pub const TEXT_ROOM: usize = 48;
-
-// The rules that writing tests, by their numbers.
-const WORDS: u32 = 12;
-
-const ROOM: u32 = 13;
 
 // Puts the text of an instruction at the start of `line`, as far as it fits, and answers its length.
 fn put_line(instr: Instr, line: &mut [u8]) -> usize
@@ -51,10 +49,10 @@ fn put_whole(text: &[u8], out: &mut [u8]) -> TextAnswer
 {
     let n = text.len();
     if out.len() < n {
-        return TextAnswer::Refused {
-            number: ROOM,
+        return TextAnswer::Refused(Refusal {
+            number: SHORT,
             place: 0,
-        };
+        });
     }
     put_bytes(out, 0, text);
     TextAnswer::Wrote { bytes: n }
@@ -65,10 +63,10 @@ pub fn write_text(instr: Instr, out: &mut [u8]) -> TextAnswer
     ensures { λ r. ⌜ written r (now (out .exit)) ≡ textIn instr (now (out .entry)) ⌝ }
 {
     if !is_valid(instr) {
-        return TextAnswer::Refused {
-            number: WORDS,
+        return TextAnswer::Refused(Refusal {
+            number: NO_WORDS,
             place: 0,
-        };
+        });
     }
     let mut line = [0u8; TEXT_ROOM];
     let n = put_line(instr, &mut line);

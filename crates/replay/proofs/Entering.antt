@@ -2,6 +2,7 @@
 use mathlib.Core.Path.{_≡_, ap, _∙_}
 use mathlib.Core.List.{List}
 use Prim.Native.Nat.{ℕ}
+use Rattle.refusals.specs.declared.Refusal.{Refusal}
 use Rattle.blocks.specs.declared.structure.Checked.{Checked}
 use Rattle.wave.specs.declared.state.Hot.{Hot}
 use Rattle.wave.specs.declared.state.State.{State}
@@ -42,7 +43,7 @@ ends-tidy a path stopped tidy = ap (with-state a _ _ _) tidy ∙ ap ending stopp
 -- ---- by the verdict v of a test
 module _ {v test : Checked} (says : v ≡ test) where
   -- the tests, one after the other
-  pub stops : (next : Checked) {number place : ℕ} → v ≡ Checked.Refused number place → Checked.Refused number place ≡ thenTest test next
+  pub stops : (next : Checked) {r : Refusal} → v ≡ Checked.Refused r → Checked.Refused r ≡ thenTest test next
   stops next refuses = rw (← says) (rw refuses)
 
   pub goes-on : (next : Checked) {x : Checked} → v ≡ Checked.Fine → x ≡ next → x ≡ thenTest test next
@@ -50,8 +51,8 @@ module _ {v test : Checked} (says : v ≡ test) where
 
   -- the answer: a refusal, or the run
   pub refused-by :
-      (run : Unit {0} → Answered) {number place : ℕ} {r : Replayed} {state : State} {regs device local : List ℕ} →
-      v ≡ Checked.Refused number place → r ≡ refusedAs number place state →
+      (run : Unit {0} → Answered) {refusal : Refusal} {r : Replayed} {state : State} {regs device local : List ℕ} →
+      v ≡ Checked.Refused refusal → r ≡ refusedAs refusal state →
       answered r regs device local ≡ byTest test run state regs (memories device local)
   refused-by run refuses e = rw (← says) (rw (refuses, e))
 
@@ -68,7 +69,7 @@ pub launched-run :
 launched-run s code regs device local fills is e = e ∙ rw (fills, is)
 
 -- where a launch is refused, its local memory is as lent
-pub unfilled : {v : Checked} (local : List ℕ) {after : List ℕ} {number place : ℕ} → after ≡ localAfter v local → v ≡ Checked.Refused number place
+pub unfilled : {v : Checked} (local : List ℕ) {after : List ℕ} {r : Refusal} → after ≡ localAfter v local → v ≡ Checked.Refused r
     → after ≡ local
 unfilled local is refuses = is ∙ ap (λ (v : Checked). localAfter v local) refuses
 

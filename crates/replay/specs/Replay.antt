@@ -1,9 +1,11 @@
--- Launching a kernel and going on from a state: the refusals in their order, each with its number and place, and else the run.
+-- Launching a kernel and going on from a state: the refusals in their order, and else the run.
 use Prim.Native.Nat.{ℕ, _*_}
 use mathlib.Core.Bool.{Bool, cond, _&&_, _||_}
 use mathlib.Core.List.{List}
 use lib.Dec.{eqb, leb}
 use lib.ListN.{length, replicate}
+use Rattle.refusals.specs.declared.Refusal.{Refusal}
+use Rattle.refusals.specs.Table.{Rule, broken}
 use Rattle.blocks.specs.declared.structure.Checked.{Checked}
 use Rattle.blocks.specs.Code.{codeOf}
 use Rattle.blocks.specs.Scan.{checkOf}
@@ -41,25 +43,33 @@ settingsRight s =
 -- ---- the tests, in their order: the first rule broken is the refusal
 abbrev pub thenTest : Checked → Checked → Checked
 thenTest Checked.Fine next = next
-thenTest (Checked.Refused number place) next = Checked.Refused number place
+thenTest (Checked.Refused r) next = Checked.Refused r
 
-abbrev pub unless : Bool → ℕ → Checked
-unless ok number = cond ok Checked.Fine (Checked.Refused number 0)
+abbrev pub refusedUnless : Bool → Refusal → Checked
+refusedUnless ok r = cond ok Checked.Fine (Checked.Refused r)
 
--- 1 a setting, 2 code too long, 3 register buffer length
+abbrev pub settingTest : Settings → Checked
+settingTest s = refusedUnless (settingsRight s) (broken Rule.setting 0)
+
+abbrev pub lengthTest : List ℕ → Checked
+lengthTest code = refusedUnless (leb (length code) mostWords) (broken Rule.long-code 0)
+
+abbrev pub bufferTest : Settings → List ℕ → Checked
+bufferTest s regs = refusedUnless (eqb (length regs) (s .width * s .registers)) (broken Rule.buffer 0)
+
 abbrev pub boundsTest : Settings → List ℕ → List ℕ → Checked
-boundsTest s code regs =
-    thenTest (unless (settingsRight s) 1)
-    (thenTest (unless (leb (length code) mostWords) 2) (unless (eqb (length regs) (s .width * s .registers)) 3))
+boundsTest s code regs = thenTest (settingTest s) (thenTest (lengthTest code) (bufferTest s regs))
 
 -- then instruction by instruction 4 to 9, then 10
 abbrev pub launchTest : Settings → List ℕ → List ℕ → Checked
 launchTest s code regs = thenTest (boundsTest s code regs) (checkOf (codeOf code (s .registers)))
 
 -- then 11: the state doesn't fit
+abbrev pub stateTest : Settings → State → List ℕ → Checked
+stateTest s state code = refusedUnless (fitsTest code (s .registers) (s .lanes) (state .hot) (state .blocks)) (broken Rule.state 0)
+
 abbrev pub resumeTest : Settings → State → List ℕ → List ℕ → Checked
-resumeTest s state code regs =
-    thenTest (launchTest s code regs) (unless (fitsTest code (s .registers) (s .lanes) (state .hot) (state .blocks)) 11)
+resumeTest s state code regs = thenTest (launchTest s code regs) (stateTest s state code)
 
 -- ---- what a call answers, with the buffers as it leaves them
 pub record Answered : Type 0 where
@@ -73,13 +83,12 @@ abbrev pub answered : Replayed → List ℕ → List ℕ → List ℕ → Answer
 answered r regs device local =
     record { outcome = r .outcome; steps = r .steps; state = r .state; regs = regs; memories = memories device local }
 
-abbrev pub refusedAs : ℕ → ℕ → State → Replayed
-refusedAs number place state = record { outcome = Outcome.Refused number place; steps = 0; state = state }
+abbrev pub refusedAs : Refusal → State → Replayed
+refusedAs r state = record { outcome = Outcome.Refused r; steps = 0; state = state }
 
 -- a refusal reports zero steps, returns the state handed in and changes nothing lent
-abbrev pub refusal : ℕ → ℕ → State → List ℕ → Memories → Answered
-refusal number place state regs y =
-    record { outcome = Outcome.Refused number place; steps = 0; state = state; regs = regs; memories = y }
+abbrev pub refusedCall : Refusal → State → List ℕ → Memories → Answered
+refusedCall r state regs y = record { outcome = Outcome.Refused r; steps = 0; state = state; regs = regs; memories = y }
 
 -- a run's answer: its state has zeros past its open blocks
 abbrev pub ending : Ran → Answered
@@ -94,7 +103,7 @@ ending r =
 
 abbrev pub byTest : Checked → (Unit {0} → Answered) → State → List ℕ → Memories → Answered
 byTest Checked.Fine run state regs y = run tt
-byTest (Checked.Refused number place) run state regs y = refusal number place state regs y
+byTest (Checked.Refused r) run state regs y = refusedCall r state regs y
 
 -- the run from a machine, with the settings' budget
 abbrev pub runFrom : Settings → List ℕ → Machine → Answered
@@ -111,7 +120,7 @@ filled local = replicate (length local) fill
 -- local memory once a launch is tested: filled, or as lent where it is refused
 abbrev pub localAfter : Checked → List ℕ → List ℕ
 localAfter Checked.Fine local = filled local
-localAfter (Checked.Refused number place) local = local
+localAfter (Checked.Refused r) local = local
 
 -- p1 to p3 clear, the launched lanes active, no block open, registers as lent
 abbrev pub launchMachine : Settings → List ℕ → List ℕ → List ℕ → Machine

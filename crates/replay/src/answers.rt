@@ -1,13 +1,14 @@
 // What a run answers.
 use faulting::faults::Faults;
+use refusals::Refusal;
 use wave::state::State;
 
-// A fault has the lanes of each kind; a refusal its number and its place.
+// A fault has the lanes of each kind.
 pub enum Outcome {
     Ended,
     OutOfBudget,
     Fault(Faults),
-    Refused { number: u32, place: usize },
+    Refused(Refusal),
 }
 
 // The outcome, the instructions carried out, and the state as it now is.

@@ -7,6 +7,7 @@ use crate::refusing::test_resume;
 use crate::run::go;
 use crate::settings::Settings;
 use blocks::structure::Checked;
+use refusals::Refusal;
 use wave::launch::launched;
 use wave::launch::not_launched;
 use wave::state::State;
@@ -18,11 +19,11 @@ ghost use Rattle.replay.specs.Replay.{refusedAs, answered, localAfter, s
 pub const FILL: u32 = 0;
 
 // A refusal: zero steps, and the state handed in.
-fn refused(number: u32, place: usize, state: State) -> Replayed
-    ensures { λ r. ⌜ r ≡ refusedAs number place state ⌝ }
+fn refused(refusal: Refusal, state: State) -> Replayed
+    ensures { λ r. ⌜ r ≡ refusedAs refusal state ⌝ }
 {
     Replayed {
-        outcome: Outcome::Refused { number, place },
+        outcome: Outcome::Refused(refusal),
         steps: 0,
         state,
     }
@@ -62,7 +63,7 @@ fn fill_local(test: Checked, local: &mut [u32])
     ensures { λ r. ⌜ now (local .exit) ≡ localAfter test (now (local .entry)) ⌝ }
 {
     match test {
-        Checked::Refused(number, place) => {}
+        Checked::Refused(_) => {}
         Checked::Fine => fill_with(local, FILL),
     }
 }
@@ -83,7 +84,7 @@ pub fn launch(
     let test = test_launch(settings, code, regs);
     fill_local(test, local);
     match test {
-        Checked::Refused(number, place) => refused(number, place, not_launched()),
+        Checked::Refused(refusal) => refused(refusal, not_launched()),
         Checked::Fine => run_from(
             settings,
             launched(settings.lanes),
@@ -111,7 +112,7 @@ pub fn resume(
 {
     let test = test_resume(settings, state, code, regs);
     match test {
-        Checked::Refused(number, place) => refused(number, place, state),
+        Checked::Refused(refusal) => refused(refusal, state),
         Checked::Fine => run_from(settings, state, code, regs, device, local),
     }
 }

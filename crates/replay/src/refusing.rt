@@ -3,11 +3,16 @@ use crate::settings::Settings;
 use blocks::structure::Checked;
 use blocks::structure::check;
 use fits::fits;
+use refusals::BUFFER;
+use refusals::LONG_CODE;
+use refusals::Refusal;
+use refusals::SETTING;
+use refusals::STATE;
 use wave::state::State;
 ghost use mathlib.Core.Path.{_≡_};
 ghost use lib.ListN.{length};
 ghost use Prim.Native.Nat.{_*_};
-ghost use Rattle.replay.specs.Replay.{settingsRight, unless, thenTest, boundsTest, launchTest, resumeTest};
+ghost use Rattle.replay.specs.Replay.{settingsRight, refusedUnless, thenTest, boundsTest, launchTest, resumeTest};
 
 // What the page allows at most.
 pub const MOST_REGISTERS: u32 = 256;
@@ -30,12 +35,12 @@ fn settings_right(s: Settings) -> bool
 
 // Fine, or the refusal `number` at place 0.
 pub(crate) fn refuse_unless(ok: bool, number: u32) -> Checked
-    ensures { λ r. ⌜ r ≡ unless ok number ⌝ }
+    ensures { λ r. ⌜ r ≡ refusedUnless ok (record { number = number; place = 0 }) ⌝ }
 {
     if ok {
         Checked::Fine
     } else {
-        Checked::Refused(number, 0)
+        Checked::Refused(Refusal { number, place: 0 })
     }
 }
 
@@ -45,7 +50,7 @@ pub(crate) fn then_test(first: Checked, next: Checked) -> Checked
 {
     match first {
         Checked::Fine => next,
-        Checked::Refused(number, place) => Checked::Refused(number, place),
+        Checked::Refused(refusal) => Checked::Refused(refusal),
     }
 }
 
@@ -53,10 +58,10 @@ pub(crate) fn then_test(first: Checked, next: Checked) -> Checked
 pub(crate) fn test_bounds(s: Settings, code: &[u32], regs: &[u32]) -> Checked
     ensures { λ r. ⌜ r ≡ boundsTest s (now (code .entry)) (now (regs .entry)) ⌝ }
 {
-    let set = refuse_unless(settings_right(s), 1);
-    let short = refuse_unless(code.len() <= MOST_WORDS, 2);
+    let set = refuse_unless(settings_right(s), SETTING);
+    let short = refuse_unless(code.len() <= MOST_WORDS, LONG_CODE);
     let size = (s.width as usize) * (s.registers as usize);
-    let buffer = refuse_unless(regs.len() == size, 3);
+    let buffer = refuse_unless(regs.len() == size, BUFFER);
     then_test(set, then_test(short, buffer))
 }
 
@@ -66,7 +71,7 @@ pub(crate) fn test_launch(s: Settings, code: &[u32], regs: &[u32]) -> Checked
 {
     let bounds = test_bounds(s, code, regs);
     match bounds {
-        Checked::Refused(number, place) => Checked::Refused(number, place),
+        Checked::Refused(refusal) => Checked::Refused(refusal),
         Checked::Fine => check(code, s.registers),
     }
 }
@@ -77,11 +82,11 @@ pub(crate) fn test_resume(s: Settings, state: State, code: &[u32], regs: &[u32])
 {
     let launch = test_launch(s, code, regs);
     match launch {
-        Checked::Refused(number, place) => Checked::Refused(number, place),
+        Checked::Refused(refusal) => Checked::Refused(refusal),
         Checked::Fine => {
             let hot = state.hot;
             let path = state.blocks;
-            refuse_unless(fits(code, s.registers, s.lanes, hot, &path), 11)
+            refuse_unless(fits(code, s.registers, s.lanes, hot, &path), STATE)
         }
     }
 }

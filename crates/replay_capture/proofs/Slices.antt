@@ -54,7 +54,7 @@ module _ (s : Settings) (code : List ℕ) where
   tested-most : (v : Checked) (b : ℕ) (m : Machine) (state : State) (regs : List ℕ) (y : Memories)
       → byTest v (λ (u : Unit {0}). ending (runOf s code b m)) state regs y .steps ≤ b
   tested-most Checked.Fine b m state regs y = run-most b m
-  tested-most (Checked.Refused number place) b m state regs y = omega arith
+  tested-most (Checked.Refused r) b m state regs y = omega arith
 
   resume-most : (state : State) (regs device local : List ℕ) → resumeOf s state code regs device local .steps ≤ s .budget
   unfolding resumeOf
@@ -72,14 +72,14 @@ unfolding stopped
 settled-by Outcome.OutOfBudget r x h = never (sym h)
 settled-by Outcome.Ended r x h = refl
 settled-by (Outcome.Fault f) r x h = refl
-settled-by (Outcome.Refused number place) r x h = refl
+settled-by (Outcome.Refused q) r x h = refl
 
 stops : (o : Outcome) → stopped o ≡ true → o ≡ Outcome.OutOfBudget
 unfolding stopped
 stops Outcome.OutOfBudget h = refl
 stops Outcome.Ended h = never h
 stops (Outcome.Fault f) h = never h
-stops (Outcome.Refused number place) h = never h
+stops (Outcome.Refused r) h = never h
 
 -- ---- a + b steps are a, and then b
 module _ (s : Settings) (code : List ℕ) (a b : ℕ) (most : a + b ≤ mostSteps) where
@@ -107,7 +107,7 @@ module _ (s : Settings) (code : List ℕ) (a b : ℕ) (most : a + b ≤ mostStep
   tested-settled : (v w : Checked) → v ≡ w → (m : Machine) (state : State) (regs : List ℕ) (y : Memories)
       → stopped (tested a w m state regs y .outcome) ≡ false → tested (a + b) v m state regs y ≡ tested a w m state regs y
   tested-settled v Checked.Fine e m state regs y h = rw e (ap ending (run-settled m h))
-  tested-settled v (Checked.Refused number place) e m state regs y h = rw e
+  tested-settled v (Checked.Refused r) e m state regs y h = rw e
 
 module _ (s : Settings) (code : List ℕ) (state : State) (regs device local : List ℕ) where
   -- what is answered with a budget of k

@@ -18,7 +18,7 @@ unfoldable pub stopped : Outcome → Bool
 stopped Outcome.OutOfBudget = true
 stopped Outcome.Ended = false
 stopped (Outcome.Fault f) = false
-stopped (Outcome.Refused number place) = false
+stopped (Outcome.Refused r) = false
 
 -- what was answered, gone on from with b steps more where the budget was spent
 unfoldable pub goneOn : Bool → Settings → List ℕ → ℕ → Answered → Answered

@@ -27,7 +27,7 @@ fn is_refused(outcome: Outcome) -> bool {
         Outcome::Ended => false,
         Outcome::OutOfBudget => false,
         Outcome::Fault(f) => false,
-        Outcome::Refused { number, place } => true,
+        Outcome::Refused(_) => true,
     }
 }
 

@@ -12,6 +12,8 @@ use lanes::Lanes;
 use naming::TEXT_ROOM;
 use naming::TextAnswer;
 use naming::write_text;
+use refusals::REGISTER;
+use refusals::UNCLOSED;
 use replay::answers::Outcome;
 use replay::answers::Replayed;
 use wave::state::AGAIN;
@@ -147,7 +149,7 @@ fn put_text(out: &mut [u8], at: usize, instr: Instr) -> usize {
             }
             at
         }
-        TextAnswer::Refused { number, place } => at,
+        TextAnswer::Refused(_) => at,
     }
 }
 
@@ -155,19 +157,19 @@ fn put_text(out: &mut [u8], at: usize, instr: Instr) -> usize {
 fn put_instruction(out: &mut [u8], at: usize, code: &[u32], place: usize) -> usize {
     match read_at(code, place) {
         ReadAnswer::Read { instr, words } => put_text(out, at, instr),
-        ReadAnswer::Refused { number, place } => at,
+        ReadAnswer::Refused(_) => at,
     }
 }
 
-// The place of the instruction that is told of: the state's, or that of a refusal by a rule about one instruction, 7 to 10.
+// The place of the instruction that is told of: the state's, or that of a refusal by a rule about an instruction that was read.
 fn told_place(outcome: Outcome, h: Hot) -> usize {
     match outcome {
         Outcome::Ended => h.place as usize,
         Outcome::OutOfBudget => h.place as usize,
         Outcome::Fault(f) => h.place as usize,
-        Outcome::Refused { number, place } => {
-            if (7 <= number) & (number <= 10) {
-                place
+        Outcome::Refused(refusal) => {
+            if (REGISTER <= refusal.number) & (refusal.number <= UNCLOSED) {
+                refusal.place
             } else {
                 NOWHERE
             }
@@ -191,10 +193,10 @@ fn put_outcome(out: &mut [u8], at: usize, outcome: Outcome) -> usize {
         Outcome::Ended => put(out, at, b"outcome ended\n"),
         Outcome::OutOfBudget => put(out, at, b"outcome out of budget\n"),
         Outcome::Fault(f) => put(out, at, b"outcome fault\n"),
-        Outcome::Refused { number, place } => {
+        Outcome::Refused(refusal) => {
             let q = put(out, at, b"outcome refused ");
-            let q = put_decimal(out, q, number as usize);
-            put_number(out, q, b" place ", place)
+            let q = put_decimal(out, q, refusal.number as usize);
+            put_number(out, q, b" place ", refusal.place)
         }
     }
 }
@@ -206,7 +208,7 @@ fn faults_of(outcome: Outcome) -> Faults {
         Outcome::Ended => none,
         Outcome::OutOfBudget => none,
         Outcome::Fault(f) => f,
-        Outcome::Refused { number, place } => none,
+        Outcome::Refused(_) => none,
     }
 }
 

@@ -32,7 +32,7 @@ fn is_stopped(outcome: Outcome) -> bool
         Outcome::Ended => false,
         Outcome::OutOfBudget => true,
         Outcome::Fault(f) => false,
-        Outcome::Refused { number, place } => false,
+        Outcome::Refused(_) => false,
     }
 }
 

@@ -15,7 +15,7 @@ abbrev pub following : Outcome → Ran → Ran → Ran
 following OutOfBudget earlier further = further
 following Ended earlier further = earlier
 following (Fault f) earlier further = earlier
-following (Refused n p) earlier further = earlier
+following (Refused q) earlier further = earlier
 
 module _ (s : Settings) (code : List ℕ) (b : ℕ) where
   abbrev pub goOn : Ran → Ran
@@ -25,7 +25,7 @@ module _ (s : Settings) (code : List ℕ) (b : ℕ) where
   following-later OutOfBudget n r x = refl
   following-later Ended n r x = refl
   following-later (Fault f) n r x = refl
-  following-later (Refused k p) n r x = refl
+  following-later (Refused q) n r x = refl
 
   goOn-later : (n : ℕ) (r : Ran) → goOn (later n r) ≡ later n (goOn r)
   goOn-later n r =

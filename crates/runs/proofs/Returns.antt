@@ -12,6 +12,7 @@ use lib.Dec.{eqb, leb}
 use lib.ListN.{length}
 use Rattle.ground.proofs.Tests.{or-cases}
 use Rattle.lanes.specs.Sets.{widest}
+use Rattle.refusals.specs.declared.Refusal.{Refusal}
 use Rattle.blocks.specs.declared.structure.Checked.{Checked}
 use Rattle.blocks.specs.declared.structure.Checked.the-variants.{Fine}
 use Rattle.blocks.specs.Code.{codeOf}
@@ -29,15 +30,18 @@ use Rattle.replay.specs.declared.answers.Outcome.{Outcome}
 use Rattle.replay.specs.declared.answers.Outcome.the-variants.{Ended, OutOfBudget}
 use Rattle.replay.specs.Machine.{Machine}
 use Rattle.replay.specs.Step.{launchedLanes, stepOf}
-use Rattle.replay.specs.Run.{Ran, stop, later, endedOf, stepAt, onward, runOf}
-use Rattle.replay.specs.Run as run
+use Rattle.replay.specs.Run.{Ran, stop, later, unless, endedOf, stepAt, onward, runOf}
 use Rattle.replay.specs.Replay.{
   mostRegisters,
   mostSteps,
   mostWords,
   settingsRight,
   thenTest,
-  unless,
+  refusedUnless,
+  settingTest,
+  lengthTest,
+  bufferTest,
+  stateTest,
   boundsTest,
   launchTest,
   resumeTest,
@@ -58,15 +62,15 @@ use Rattle.runs.proofs.Keeping.{run-keeps, run-long}
 -- ---- what a test that was passed says
 pub then-first : (v next : Checked) → thenTest v next ≡ Fine → v ≡ Fine
 then-first Checked.Fine next e = refl
-then-first (Checked.Refused k p) next e = e
+then-first (Checked.Refused r) next e = e
 
 pub then-second : (v next : Checked) → thenTest v next ≡ Fine → next ≡ Fine
 then-second Checked.Fine next e = e
-then-second (Checked.Refused k p) next e = absurd (let z : _≡_ {A = ℕ} 0 1 = cc in omega arith)
+then-second (Checked.Refused r) next e = absurd (let z : _≡_ {A = ℕ} 0 1 = cc in omega arith)
 
-pub unless-true : (ok : Bool) (number : ℕ) → unless ok number ≡ Fine → ok ≡ true
-unless-true true number e = refl
-unless-true false number e = absurd (let z : _≡_ {A = ℕ} 0 1 = cc in omega arith)
+pub unless-true : (ok : Bool) (r : Refusal) → refusedUnless ok r ≡ Fine → ok ≡ true
+unless-true true r e = refl
+unless-true false r e = absurd (let z : _≡_ {A = ℕ} 0 1 = cc in omega arith)
 
 -- what the tests of a launch ask, the budget's apart
 pub record Launchable (s : Settings) (code : List ℕ) : Type 0 where
@@ -81,9 +85,9 @@ pub record Launchable (s : Settings) (code : List ℕ) : Type 0 where
 pub launchable : (s : Settings) (b : ℕ) (code regs : List ℕ) → launchTest (budgeted b s) code regs ≡ Fine → Launchable s code
 launchable s b code regs e =
     let t1 = then-first (boundsTest (budgeted b s) code regs) (checkOf (codeOf code (s .registers))) e in
-    let rest : Checked = thenTest (unless (leb (length code) mostWords) 2) (unless (eqb (length regs) (s .width * s .registers)) 3) in
+    let rest : Checked = thenTest (lengthTest code) (bufferTest s regs) in
     let right : settingsRight (budgeted b s) ≡ true =
-    unless-true (settingsRight (budgeted b s)) 1 (then-first (unless (settingsRight (budgeted b s)) 1) rest t1) in
+    unless-true (settingsRight (budgeted b s)) _ (then-first (settingTest (budgeted b s)) rest t1) in
     let a = right-allowed (budgeted b s) right in
     record {
       widths = among-width (s .width) (a .width);
@@ -92,20 +96,18 @@ launchable s b code regs e =
       some-lane = le-leb 1 (s .lanes) (a .lanes .0);
       few-lanes = le-leb (s .lanes) (s .width) (a .lanes .1);
       short =
-          unless-true (leb (length code) mostWords) 2
-          (then-first (unless (leb (length code) mostWords) 2) (unless (eqb (length regs) (s .width * s .registers)) 3)
-          (then-second (unless (settingsRight (budgeted b s)) 1) rest t1));
+          unless-true (leb (length code) mostWords) _
+          (then-first (lengthTest code) (bufferTest s regs) (then-second (settingTest (budgeted b s)) rest t1));
       checked = then-second (boundsTest (budgeted b s) code regs) (checkOf (codeOf code (s .registers))) e;
     }
 
 pub right-length : (s : Settings) (code regs : List ℕ) → launchTest s code regs ≡ Fine → length regs ≡ s .width * s .registers
 right-length s code regs e =
     let t1 = then-first (boundsTest s code regs) (checkOf (codeOf code (s .registers))) e in
-    let last : Checked = unless (eqb (length regs) (s .width * s .registers)) 3 in
-    let rest : Checked = thenTest (unless (leb (length code) mostWords) 2) last in
+    let rest : Checked = thenTest (lengthTest code) (bufferTest s regs) in
     eqb-true (length regs) (s .width * s .registers)
-    (unless-true (eqb (length regs) (s .width * s .registers)) 3
-    (then-second (unless (leb (length code) mostWords) 2) last (then-second (unless (settingsRight s) 1) rest t1)))
+    (unless-true (eqb (length regs) (s .width * s .registers)) _
+    (then-second (lengthTest code) (bufferTest s regs) (then-second (settingTest s) rest t1)))
 
 -- what the tests of a resume ask: those of a launch, and that the state fits
 pub record Resumable (s : Settings) (state : State) (code regs : List ℕ) : Type 0 where
@@ -114,10 +116,11 @@ pub record Resumable (s : Settings) (state : State) (code regs : List ℕ) : Typ
 
 pub resumable : (s : Settings) (state : State) (code regs : List ℕ) → resumeTest s state code regs ≡ Fine → Resumable s state code regs
 resumable s state code regs e =
-    let fit : Bool = fitsTest code (s .registers) (s .lanes) (state .hot) (state .blocks) in
     record {
-      launches = then-first (launchTest s code regs) (unless fit 11) e;
-      fits = unless-true fit 11 (then-second (launchTest s code regs) (unless fit 11) e);
+      launches = then-first (launchTest s code regs) (stateTest s state code) e;
+      fits =
+          unless-true (fitsTest code (s .registers) (s .lanes) (state .hot) (state .blocks)) _
+          (then-second (launchTest s code regs) (stateTest s state code) e);
     }
 
 resumable-passes : (s : Settings) (state : State) (code regs : List ℕ) → Resumable s state code regs → resumeTest s state code regs ≡ Fine
@@ -213,7 +216,7 @@ module _ (s : Settings) (code regs device local : List ℕ) where
   not-refused : (v : Checked) (f : Unit {0} → Answered) (state : State) (y : Memories)
       → byTest v f state regs y .outcome ≡ OutOfBudget → v ≡ Fine
   not-refused Checked.Fine f state y e = refl
-  not-refused (Checked.Refused k p) f state y e = absurd (let z : _≡_ {A = ℕ} 0 1 = cc in omega arith)
+  not-refused (Checked.Refused r) f state y e = absurd (let z : _≡_ {A = ℕ} 0 1 = cc in omega arith)
 
   launch-passed : launchOf s code regs device local .outcome ≡ OutOfBudget → launchTest s code regs ≡ Fine
   unfolding launchOf
@@ -249,7 +252,7 @@ one-budgeted : (a b : ℕ) (s : Settings) (code : List ℕ) (k : ℕ) (m : Machi
     → runOf (budgeted a s) code (suc k) m ≡ runOf (budgeted b s) code (suc k) m
 unfolding runOf stepOf
 one-budgeted a b s code k m e =
-    ap (λ (r : Ran). run.unless (endedOf s code m) (stop Ended m) (λ (u : Unit {0}). onward (stepAt s code m) m (λ (v : Unit {0}). r))) e
+    ap (λ (r : Ran). unless (endedOf s code m) (stop Ended m) (λ (u : Unit {0}). onward (stepAt s code m) m (λ (v : Unit {0}). r))) e
 
 pub run-budgeted : (a b : ℕ) (s : Settings) (code : List ℕ) (k : ℕ) (m : Machine)
     → runOf (budgeted a s) code k m ≡ runOf (budgeted b s) code k m

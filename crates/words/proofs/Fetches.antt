@@ -7,6 +7,8 @@ use native.Mathlib.Omega.{arith}
 use lib.Dec.{ltb}
 use lib.ListN.{length, getD, drop, drop-of-length-le}
 use lib.Seq.{drop-cons, getD-drop}
+use Rattle.refusals.specs.declared.Refusal.{Refusal}
+use Rattle.refusals.specs.Table.{Rule, broken}
 use Rattle.instructions.specs.declared.instr.ControlOp.{ControlOp}
 use Rattle.instructions.specs.declared.instr.Instr.{Instr}
 use Rattle.instructions.specs.declared.instr.Op.{Op}
@@ -44,17 +46,17 @@ module _ (ws : List ℕ) (at : ℕ) where
 
 -- ---- what reading gives
 -- a refusal is no instruction
-not-read : {A : Type 0} (k p n : ℕ) (i : Instr) → ReadAnswer.Refused k p ≡ ReadAnswer.Read i n → A
-not-read k p n i e = absurd (let z : _≡_ {A = ℕ} 0 1 = cc in omega arith)
+not-read : {A : Type 0} (r : Refusal) (n : ℕ) (i : Instr) → ReadAnswer.Refused r ≡ ReadAnswer.Read i n → A
+not-read r n i e = absurd (let z : _≡_ {A = ℕ} 0 1 = cc in omega arith)
 
-late : (t : Bool) (k p n : ℕ) (a : ReadAnswer) (i : Instr) → cond t (ReadAnswer.Refused k p) a ≡ ReadAnswer.Read i n → a ≡ ReadAnswer.Read i n
-late true k p n a i e = not-read k p n i e
-late false k p n a i e = e
+late : (t : Bool) (r : Refusal) (n : ℕ) (a : ReadAnswer) (i : Instr) → cond t (ReadAnswer.Refused r) a ≡ ReadAnswer.Read i n → a ≡ ReadAnswer.Read i n
+late true r n a i e = not-read r n i e
+late false r n a i e = e
 
 early :
-    (t : Bool) (k p m n : ℕ) (x i : Instr) → cond t (ReadAnswer.Read x m) (ReadAnswer.Refused k p) ≡ ReadAnswer.Read i n → (x ≡ i) × (m ≡ n)
-early true k p m n x i e = (cc, cc)
-early false k p m n x i e = not-read k p n i e
+    (t : Bool) (r : Refusal) (m n : ℕ) (x i : Instr) → cond t (ReadAnswer.Read x m) (ReadAnswer.Refused r) ≡ ReadAnswer.Read i n → (x ≡ i) × (m ≡ n)
+early true r m n x i e = (cc, cc)
+early false r m n x i e = not-read r n i e
 
 -- the operation stands in the instruction, whatever the second word is
 op-stays : (s : Second) (o : Op) (w v : ℕ) → size (instrIn s o w v .op) ≡ size o
@@ -63,17 +65,17 @@ op-stays Second.Number o w v = refl
 op-stays (Second.Registers a b c) o w v = refl
 
 by-op : (f : FoundOp) (w : ℕ) (ws : List ℕ) (at n : ℕ) (i : Instr) → readOp f w ws at ≡ ReadAnswer.Read i n → (saidBy f w (getD ws 0 0) ≡ i) × (size (i .op) ≡ n)
-by-op FoundOp.Missing w ws at n i e = not-read _ _ n i e
+by-op FoundOp.Missing w ws at n i e = not-read _ n i e
 by-op (FoundOp.Carried o) w ws at n i e =
     let l = limitsOf o in
     let x : Instr = instrIn (l .second) o w (getD ws 0 0) in
     let p =
-    early (spareZero (l .second) w (getD ws 0 0) && fits l x) 6 at (sizeOf (l .second)) n x i
-    (late (ltb (suc (length ws)) (sizeOf (l .second))) 5 at n (readFields o l w (getD ws 0 0) at) i e) in
+    early (spareZero (l .second) w (getD ws 0 0) && fits l x) (broken Rule.field at) (sizeOf (l .second)) n x i
+    (late (ltb (suc (length ws)) (sizeOf (l .second))) (broken Rule.no-second at) n (readFields o l w (getD ws 0 0) at) i e) in
     (p .0, ap (λ (x : Instr). size (x .op)) (sym (p .0)) ∙ op-stays (limitsOf o .second) o w (getD ws 0 0) ∙ p .1)
 
 from-words : (ws : List ℕ) (at n : ℕ) (i : Instr) → readFrom ws at ≡ ReadAnswer.Read i n → (saidFrom ws ≡ i) × (size (i .op) ≡ n)
-from-words [] at n i e = not-read _ _ n i e
+from-words [] at n i e = not-read _ n i e
 from-words (w ∷ ws) at n i e = by-op (opOf (opcodeIn w) (modifierIn w)) w ws at n i e
 
 -- where reading gives an instruction, it is the one that is fetched, and it has as many words as its operation

@@ -17,7 +17,8 @@ use Rattle.words.specs.declared.reading.ReadAnswer.{ReadAnswer}
 use Rattle.instructions.specs.Table.{opcodeOf, modifierOf, opOf}
 use Rattle.instructions.specs.Forms.{limitsOf, sizeOf, fits, valid}
 use Rattle.words.specs.Layout.{firstWord, instrIn, restOf, secondSpare, spareZero, wordsOf, opcodeIn, modifierIn, bit3In, negateIn, rs4In, spareIn}
-use Rattle.words.specs.Refusals.{Rule}
+use Rattle.refusals.specs.declared.Refusal.{Refusal}
+use Rattle.refusals.specs.Table.{Rule}
 use Rattle.words.specs.Reading.{refused, readFields, readOp, readFrom}
 use Rattle.instructions.proofs.Lookup.{op-opcode, op-modifier}
 use Rattle.words.proofs.Sizes.{words-length}
@@ -64,8 +65,8 @@ rest-kept (Second.Registers x y t) o w (v ∷ r) h z =
     rw (whole-pair v rs4 unused)
 
 -- two answers that are not alike
-unread : {A : Type 0} (i : Instr) (n k p : ℕ) → ReadAnswer.Refused k p ≡ ReadAnswer.Read i n → A
-unread i n k p e = absurd (let z : _≡_ {A = ℕ} 0 1 = cc in omega arith)
+unread : {A : Type 0} (i : Instr) (n : ℕ) (r : Refusal) → ReadAnswer.Refused r ≡ ReadAnswer.Read i n → A
+unread i n r e = absurd (let z : _≡_ {A = ℕ} 0 1 = cc in omega arith)
 
 module _ (i : Instr) (n at : ℕ) where
   -- all tests passed
@@ -92,7 +93,7 @@ module _ (i : Instr) (n at : ℕ) where
       }
 
   pub read-back : (ws : List ℕ) → readFrom ws at ≡ ReadAnswer.Read i n → Starts ws i n
-  read-back [] e = unread i n _ at e
+  read-back [] e = unread i n _ e
   read-back (w ∷ r) e = looked (opOf (opcodeIn w) (modifierIn w)) refl e
     where
       tested :
@@ -101,15 +102,15 @@ module _ (i : Instr) (n at : ℕ) where
           cond b (ReadAnswer.Read (instrIn (limitsOf o .second) o w (getD r 0 0)) (sizeOf (limitsOf o .second))) (refused Rule.field at)
           ≡ ReadAnswer.Read i n → Starts (w ∷ r) i n
       tested o named room true t e = passed o w r named room t (cc) (cc)
-      tested o named room false t e = unread i n _ at e
+      tested o named room false t e = unread i n _ e
 
       counted :
           (o : Op) → opOf (opcodeIn w) (modifierIn w) ≡ FoundOp.Carried o → (b : Bool) → ltb (suc (length r)) (sizeOf (limitsOf o .second)) ≡ b →
-          cond b (refused Rule.second at) (readFields o (limitsOf o) w (getD r 0 0) at) ≡ ReadAnswer.Read i n → Starts (w ∷ r) i n
-      counted o named true h e = unread i n _ at e
+          cond b (refused Rule.no-second at) (readFields o (limitsOf o) w (getD r 0 0) at) ≡ ReadAnswer.Read i n → Starts (w ∷ r) i n
+      counted o named true h e = unread i n _ e
       counted o named false h e = tested o named (ltb-false _ _ h) _ refl e
 
       looked :
           (found : FoundOp) → opOf (opcodeIn w) (modifierIn w) ≡ found → readOp found w r at ≡ ReadAnswer.Read i n → Starts (w ∷ r) i n
-      looked FoundOp.Missing h e = unread i n _ at e
+      looked FoundOp.Missing h e = unread i n _ e
       looked (FoundOp.Carried o) h e = counted o h _ refl e

@@ -15,7 +15,7 @@ use Rattle.words.specs.declared.reading.ReadAnswer.{ReadAnswer}
 use Rattle.instructions.specs.Table.{opOf}
 use Rattle.instructions.specs.Forms.{limitsOf, sizeOf, fits}
 use Rattle.words.specs.Layout.{instrIn, spareZero, opcodeIn, modifierIn}
-use Rattle.words.specs.Refusals.{Rule}
+use Rattle.refusals.specs.Table.{Rule}
 use Rattle.words.specs.Reading.{refused, readFields, readOp, readAt}
 
 -- the test of the fields, from the parts that the code has worked out
@@ -27,7 +27,7 @@ fields-are o l w v at n i spare fit t ei en es ef et = rw (← et, es, ef, ei, e
 
 module _ (ws : List ℕ) (at : ℕ) where
   -- no word at all
-  pub past : length ws ≤ at → readAt ws at ≡ refused Rule.second at
+  pub past : length ws ≤ at → readAt ws at ≡ refused Rule.no-second at
   past h = rw (drop-of-length-le ws h)
 
   module _ (here : at < length ws) where
@@ -37,12 +37,12 @@ module _ (ws : List ℕ) (at : ℕ) where
     within = rw (drop-cons ws at 0 here)
 
     -- an operation that is not carried
-    pub missing : opOf (opcodeIn (getD ws at 0)) (modifierIn (getD ws at 0)) ≡ FoundOp.Missing → readAt ws at ≡ refused Rule.carried at
+    pub missing : opOf (opcodeIn (getD ws at 0)) (modifierIn (getD ws at 0)) ≡ FoundOp.Missing → readAt ws at ≡ refused Rule.not-carried at
     missing e = within ∙ rw e
 
     module _ (o : Op) (named : opOf (opcodeIn (getD ws at 0)) (modifierIn (getD ws at 0)) ≡ FoundOp.Carried o) where
       -- an operation that has no room for its words
-      pub short : length ws - at < sizeOf (limitsOf o .second) → readAt ws at ≡ refused Rule.second at
+      pub short : length ws - at < sizeOf (limitsOf o .second) → readAt ws at ≡ refused Rule.no-second at
       short h =
           let p : suc (length (drop (suc at) ws)) < sizeOf (limitsOf o .second) = simp length-drop (omega arith) in
           within ∙ rw (named, lt-ltb _ _ p)

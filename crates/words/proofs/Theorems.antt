@@ -2,28 +2,28 @@
 -- instructions whose words stand there (`reads`), and refuses exactly by the first rule broken (`refuses`); writing undoes reading, and
 -- reading undoes writing.
 use mathlib.Core.Path.{_≡_, refl, sym, _∙_, ap, subst}
-use mathlib.Core.Bool.{true, cond}
+use mathlib.Core.Bool.{true}
 use mathlib.Core.List.{List, [], _++_}
 use mathlib.Core.Logic.{_↔_}
 use Prim.Native.Nat.{ℕ, zero, suc, _≤_, _<_, _^_}
 use native.Mathlib.Omega.{arith}
-use lib.Dec.{leb}
 use lib.ListN.{length, getD, take, drop}
 use borrow.Author.Tests.{le-leb, lt-leb}
 use Rattle.ground.proofs.Bools.{never}
+use Rattle.refusals.specs.declared.Refusal.{Refusal}
+use Rattle.refusals.specs.Table.{Rule, broken}
 use Rattle.instructions.specs.declared.instr.Instr.{Instr}
 use Rattle.words.specs.declared.reading.ReadAnswer.{ReadAnswer}
 use Rattle.words.specs.declared.writing.WriteAnswer.{WriteAnswer}
 use Rattle.instructions.specs.Forms.{limitsOf, valid}
 use Rattle.words.specs.Layout.{wordsOf}
-use Rattle.words.specs.Refusals.{Rule, numberOf}
 use Rattle.words.specs.Rules.{Stands, Breaks}
-use Rattle.words.specs.Reading.{refused, readFrom, readAt}
+use Rattle.words.specs.Reading.{readFrom, readAt}
 use Rattle.words.specs.Writing.{Written, written, writeOf}
 use Rattle.words.proofs.Validity.{fields, first-fits, rest-fits}
 use Rattle.words.proofs.FromInstr.{read-written}
 use Rattle.words.proofs.Standing.{stood, standing}
-use Rattle.words.proofs.Verdicts.{Verdict, verdict, not-carried, second-missing, wrong-field, Outcome, outcome}
+use Rattle.words.proofs.Verdicts.{Verdict, verdict, breaks-answered, Outcome, outcome}
 
 -- READING
 
@@ -31,33 +31,13 @@ use Rattle.words.proofs.Verdicts.{Verdict, verdict, not-carried, second
 pub reads : (ws : List ℕ) (at : ℕ) (i : Instr) (n : ℕ) → (readAt ws at ≡ ReadAnswer.Read i n) ↔ (Stands ws at i × (n ≡ length (wordsOf i)))
 reads ws at i n = (stood ws at i n, λ h. standing ws at i (h .0) ∙ ap (ReadAnswer.Read i) (sym (h .1)))
 
--- the rule of a number
-abbrev ruleOf : ℕ → Rule
-ruleOf n = cond (leb n 4) Rule.carried (cond (leb n 5) Rule.second (cond (leb n 6) Rule.field (cond (leb n 12) Rule.words Rule.room)))
-
-rule-back : (rule : Rule) → ruleOf (numberOf rule) ≡ rule
-rule-back Rule.carried = refl
-rule-back Rule.second = refl
-rule-back Rule.field = refl
-rule-back Rule.words = refl
-rule-back Rule.room = refl
-
--- a rule's refusal is answered exactly if it is the first rule broken
-pub refuses : (ws : List ℕ) (at : ℕ) (rule : Rule) → (readAt ws at ≡ refused rule at) ↔ Breaks ws at rule
-refuses ws at rule = (λ e. forth e (verdict ws at), back rule)
+-- a refusal is answered exactly if it is of the first rule broken
+pub refuses : (ws : List ℕ) (at : ℕ) (r : Refusal) → (readAt ws at ≡ ReadAnswer.Refused r) ↔ Breaks ws at r
+refuses ws at r = (λ e. forth e (verdict ws at), breaks-answered ws at r)
   where
-    forth : readAt ws at ≡ refused rule at → Verdict ws at → Breaks ws at rule
+    forth : readAt ws at ≡ ReadAnswer.Refused r → Verdict ws at → Breaks ws at r
     forth e (Verdict.read i n f) = let z : _≡_ {A = ℕ} 0 1 = cc in absurd (omega arith)
-    forth e (Verdict.broken other b f) =
-        let same : numberOf other ≡ numberOf rule = cc in
-        subst (Breaks ws at) (sym (rule-back other) ∙ ap ruleOf same ∙ rule-back rule) b
-
-    back : (r : Rule) → Breaks ws at r → readAt ws at ≡ refused r at
-    back Rule.carried h = not-carried ws at h
-    back Rule.second h = second-missing ws at h
-    back Rule.field h = wrong-field ws at (h .0) (h .1) (h .2) (h .3)
-    back Rule.words h = absurd h
-    back Rule.room h = absurd h
+    forth e (Verdict.broken other b f) = let same : other ≡ r = cc in subst (Breaks ws at) same b
 
 -- WRITING
 
@@ -66,14 +46,14 @@ pub words-fit : (i : Instr) → valid i ≡ true → i .number < 2 ^ 32 → (k :
 words-fit i ok n zero = first-fits i (fields i ok)
 words-fit i ok n (suc k) = rest-fits (limitsOf (i .op) .second) i k (fields i ok .second) (fields i ok .room) n
 
--- one output has one answer: two refusals have one number, two counts are one, and a refusal is no count
-one-number : {x : WriteAnswer} {m n p q : ℕ} → x ≡ WriteAnswer.Refused m p → x ≡ WriteAnswer.Refused n q → m ≡ n
-one-number e f = cc
+-- one output has one answer: two refusals are one, two counts are one, and a refusal is no count
+one-refusal : {x : WriteAnswer} {r q : Refusal} → x ≡ WriteAnswer.Refused r → x ≡ WriteAnswer.Refused q → r .number ≡ q .number
+one-refusal {r = r} {q = q} e f = let same : r ≡ q = cc in ap (λ (z : Refusal). z .number) same
 
 one-count : {x : WriteAnswer} {m n : ℕ} → x ≡ WriteAnswer.Wrote m → x ≡ WriteAnswer.Wrote n → m ≡ n
 one-count e f = cc
 
-not-both : {x : WriteAnswer} {m n p : ℕ} → x ≡ WriteAnswer.Refused m p → x ≡ WriteAnswer.Wrote n → ⊥
+not-both : {x : WriteAnswer} {r : Refusal} {n : ℕ} → x ≡ WriteAnswer.Refused r → x ≡ WriteAnswer.Wrote n → ⊥
 not-both e f = let z : _≡_ {A = ℕ} 0 1 = cc in omega arith
 
 module _ (i : Instr) (out : List ℕ) where
@@ -82,31 +62,31 @@ module _ (i : Instr) (out : List ℕ) where
 
   -- 12 exactly if no words read as this instruction
   pub no-words-give :
-      (writeOf i out .answer ≡ WriteAnswer.Refused (numberOf Rule.words) 0) ↔ ((ws : List ℕ) (at n : ℕ) → readAt ws at ≡ ReadAnswer.Read i n → ⊥)
+      (writeOf i out .answer ≡ WriteAnswer.Refused (broken Rule.no-words 0)) ↔ ((ws : List ℕ) (at n : ℕ) → readAt ws at ≡ ReadAnswer.Read i n → ⊥)
   no-words-give = (λ e. forth e (outcome i out), λ none. back none (outcome i out))
     where
       forth :
-          writeOf i out .answer ≡ WriteAnswer.Refused (numberOf Rule.words) 0 → Outcome i out →
+          writeOf i out .answer ≡ WriteAnswer.Refused (broken Rule.no-words 0) → Outcome i out →
           (ws : List ℕ) (at n : ℕ) → readAt ws at ≡ ReadAnswer.Read i n → ⊥
       forth e (Outcome.no-words bad f) ws at n g = never (sym bad ∙ stood ws at i n g .0 .0)
-      forth e (Outcome.no-room ok h f) ws at n g = let z = one-number e (answered f) in omega arith
+      forth e (Outcome.no-room ok h f) ws at n g = let z = one-refusal e (answered f) in omega arith
       forth e (Outcome.wrote ok h f) ws at n g = not-both e (answered f)
 
       back :
           ((ws : List ℕ) (at n : ℕ) → readAt ws at ≡ ReadAnswer.Read i n → ⊥) → Outcome i out →
-          writeOf i out .answer ≡ WriteAnswer.Refused (numberOf Rule.words) 0
+          writeOf i out .answer ≡ WriteAnswer.Refused (broken Rule.no-words 0)
       back none (Outcome.no-words bad f) = ap (λ (x : Written). x .answer) f
       back none (Outcome.no-room ok h f) = absurd (none (wordsOf i ++ []) 0 _ (read-written i ok [] 0))
       back none (Outcome.wrote ok h f) = absurd (none (wordsOf i ++ []) 0 _ (read-written i ok [] 0))
 
   -- 13 exactly if its words are more than the output has
   pub no-room-left :
-      (writeOf i out .answer ≡ WriteAnswer.Refused (numberOf Rule.room) 0) ↔ ((valid i ≡ true) × (length out < length (wordsOf i)))
+      (writeOf i out .answer ≡ WriteAnswer.Refused (broken Rule.short 0)) ↔ ((valid i ≡ true) × (length out < length (wordsOf i)))
   no-room-left = (λ e. forth e (outcome i out), λ h. rw (h .0, lt-leb (length (wordsOf i)) (length out) (h .1)))
     where
       forth :
-          writeOf i out .answer ≡ WriteAnswer.Refused (numberOf Rule.room) 0 → Outcome i out → (valid i ≡ true) × (length out < length (wordsOf i))
-      forth e (Outcome.no-words bad f) = let z = one-number e (answered f) in absurd (omega arith)
+          writeOf i out .answer ≡ WriteAnswer.Refused (broken Rule.short 0) → Outcome i out → (valid i ≡ true) × (length out < length (wordsOf i))
+      forth e (Outcome.no-words bad f) = let z = one-refusal e (answered f) in absurd (omega arith)
       forth e (Outcome.no-room ok h f) = (ok, h)
       forth e (Outcome.wrote ok h f) = absurd (not-both e (answered f))
 
@@ -124,8 +104,8 @@ module _ (i : Instr) (out : List ℕ) where
       back h = let fit : length (wordsOf i) ≤ length out = rw (h .1) at (h .2) in rw (h .0, le-leb _ _ fit, h .1)
 
   -- a refusal leaves the output as lent
-  pub refused-keeps : (n p : ℕ) → writeOf i out .answer ≡ WriteAnswer.Refused n p → writeOf i out .after ≡ out
-  refused-keeps n p e = by (outcome i out)
+  pub refused-keeps : (r : Refusal) → writeOf i out .answer ≡ WriteAnswer.Refused r → writeOf i out .after ≡ out
+  refused-keeps r e = by (outcome i out)
     where
       by : Outcome i out → writeOf i out .after ≡ out
       by (Outcome.no-words bad f) = ap (λ (x : Written). x .after) f

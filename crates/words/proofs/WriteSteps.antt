@@ -10,7 +10,7 @@ use Rattle.instructions.specs.declared.instr.Instr.{Instr}
 use Rattle.words.specs.declared.writing.WriteAnswer.{WriteAnswer}
 use Rattle.instructions.specs.Forms.{limitsOf, sizeOf, valid}
 use Rattle.words.specs.Layout.{firstWord, restOf, wordsOf}
-use Rattle.words.specs.Refusals.{Rule}
+use Rattle.refusals.specs.Table.{Rule}
 use Rattle.words.specs.Writing.{written, unwritten, put, writeOf}
 use Rattle.words.proofs.Sizes.{words-length, rest-one, rest-two}
 
@@ -24,11 +24,11 @@ put-two (a ∷ []) h v p = absurd (omega arith)
 put-two (a ∷ b ∷ out) h v p = rw (le-leb 2 _ p)
 
 module _ (i : Instr) (out : List ℕ) where
-  pub not-valid : valid i ≡ false → unwritten Rule.words out ≡ writeOf i out
+  pub not-valid : valid i ≡ false → unwritten Rule.no-words out ≡ writeOf i out
   not-valid bad = rw bad
 
   module _ (ok : valid i ≡ true) where
-    pub no-room : length out < sizeOf (limitsOf (i .op) .second) → unwritten Rule.room out ≡ writeOf i out
+    pub no-room : length out < sizeOf (limitsOf (i .op) .second) → unwritten Rule.short out ≡ writeOf i out
     no-room h =
         let p : length out < length (wordsOf i) = rw (words-length i) h in
         rw (ok, lt-leb _ _ p)

@@ -11,11 +11,11 @@ use Rattle.words.specs.declared.reading.ReadAnswer.{ReadAnswer}
 use Rattle.instructions.specs.Table.{opOf}
 use Rattle.instructions.specs.Forms.{limitsOf, sizeOf, size, fits}
 use Rattle.words.specs.Layout.{instrIn, spareZero, opcodeIn, modifierIn}
-use Rattle.words.specs.Refusals.{Rule, numberOf}
+use Rattle.refusals.specs.Table.{Rule, broken}
 
 -- a rule is broken by the instruction at a place
 abbrev pub refused : Rule → ℕ → ReadAnswer
-refused rule at = ReadAnswer.Refused (numberOf rule) at
+refused rule at = ReadAnswer.Refused (broken rule at)
 
 -- the words w and v of an operation with these limits; v counts only where the operation has a second word
 abbrev pub readFields : Op → Limits → ℕ → ℕ → ℕ → ReadAnswer
@@ -25,13 +25,13 @@ readFields o l w v at =
 
 -- the word w and those after it, once its operation has been looked up
 abbrev pub readOp : FoundOp → ℕ → List ℕ → ℕ → ReadAnswer
-readOp FoundOp.Missing w ws at = refused Rule.carried at
+readOp FoundOp.Missing w ws at = refused Rule.not-carried at
 readOp (FoundOp.Carried o) w ws at =
-    cond (ltb (suc (length ws)) (size o)) (refused Rule.second at) (readFields o (limitsOf o) w (getD ws 0 0) at)
+    cond (ltb (suc (length ws)) (size o)) (refused Rule.no-second at) (readFields o (limitsOf o) w (getD ws 0 0) at)
 
 -- the instruction that a list of words starts with
 abbrev pub readFrom : List ℕ → ℕ → ReadAnswer
-readFrom [] at = refused Rule.second at
+readFrom [] at = refused Rule.no-second at
 readFrom (w ∷ ws) at = readOp (opOf (opcodeIn w) (modifierIn w)) w ws at
 
 -- the instruction whose first word stands at a place

@@ -3,9 +3,10 @@
 use mathlib.Core.Path.{_≡_}
 use mathlib.Core.Bool.{true}
 use mathlib.Core.List.{List}
-use mathlib.Core.Logic.{_⊎_}
 use Prim.Native.Nat.{ℕ, _≤_, _<_, _+_}
 use lib.ListN.{length, getD, take, drop}
+use Rattle.refusals.specs.declared.Refusal.{Refusal}
+use Rattle.refusals.specs.Table.{Rule, broken}
 use Rattle.instructions.specs.declared.instr.Op.{Op}
 use Rattle.instructions.specs.declared.instr.Instr.{Instr}
 use Rattle.instructions.specs.declared.forms.Need.{Need}
@@ -14,7 +15,6 @@ use Rattle.instructions.specs.declared.forms.Limits.{Limits}
 use Rattle.instructions.specs.Table.{opcodeOf, modifierOf}
 use Rattle.instructions.specs.Forms.{limitsOf, size, valid}
 use Rattle.words.specs.Layout.{wordsOf, opcodeIn, modifierIn, rdIn, rs1In, bit3In, negateIn, predIn, rs2In, rs3In, rs4In, spareIn, scopeIn}
-use Rattle.words.specs.Refusals.{Rule}
 
 -- a valid instruction's words stand at a place
 abbrev pub Stands : List ℕ → ℕ → Instr → Type 0
@@ -49,15 +49,14 @@ pub record Allowed (l : Limits) (w v : ℕ) : Type 0 where
   pub rs1 : rs1In w ≤ l .rs1
   pub second : SecondAllowed (l .second) v
 
--- the rule is the first that the words at a place break
-abbrev pub Breaks : List ℕ → ℕ → Rule → Type 0
--- no word at all; or the word names an operation that has more words than there are
-Breaks ws at Rule.second = (length ws ≤ at) ⊎ ((o : Op) × (at < length ws) × Names ws at o × (length ws < at + size o))
--- a word that names no operation
-Breaks ws at Rule.carried = (at < length ws) × ((o : Op) → Names ws at o → ⊥)
--- the words of an operation are there, and not all is allowed that their fields have
-Breaks ws at Rule.field =
-    ((o : Op) × Names ws at o × (at + size o ≤ length ws) × (Allowed (limitsOf o) (getD ws at 0) (getD ws (at + 1) 0) → ⊥))
--- the other two are writing's
-Breaks ws at Rule.words = ⊥
-Breaks ws at Rule.room = ⊥
+-- the first rule that the words at a place break, there
+pub data Breaks (ws : List ℕ) (at : ℕ) : Refusal → Type 0 where
+  -- a word that names no operation
+  no-operation : at < length ws → ((o : Op) → Names ws at o → ⊥) → Breaks ws at (broken Rule.not-carried at)
+  -- no word at all
+  no-word : length ws ≤ at → Breaks ws at (broken Rule.no-second at)
+  -- the word names an operation that has more words than there are
+  few-words : (o : Op) → at < length ws → Names ws at o → length ws < at + size o → Breaks ws at (broken Rule.no-second at)
+  -- the words of an operation are there, and not all is allowed that their fields have
+  wrong-field : (o : Op) → Names ws at o → at + size o ≤ length ws → (Allowed (limitsOf o) (getD ws at 0) (getD ws (at + 1) 0) → ⊥)
+      → Breaks ws at (broken Rule.field at)

@@ -8,7 +8,7 @@ use Rattle.instructions.specs.declared.instr.Instr.{Instr}
 use Rattle.words.specs.declared.writing.WriteAnswer.{WriteAnswer}
 use Rattle.instructions.specs.Forms.{valid}
 use Rattle.words.specs.Layout.{wordsOf}
-use Rattle.words.specs.Refusals.{Rule, numberOf}
+use Rattle.refusals.specs.Table.{Rule, broken}
 
 -- an answer, and what the output holds then
 pub record Written : Type 0 where
@@ -21,13 +21,13 @@ written answer after = record { answer = answer; after = after }
 
 -- a rule is broken
 abbrev pub unwritten : Rule → List ℕ → Written
-unwritten rule out = written (WriteAnswer.Refused (numberOf rule) 0) out
+unwritten rule out = written (WriteAnswer.Refused (broken rule 0)) out
 
 -- words put at the start of an output that has room for them
 abbrev pub put : List ℕ → List ℕ → Written
 put ws out =
-    cond (leb (length ws) (length out)) (written (WriteAnswer.Wrote (length ws)) (ws ++ drop (length ws) out)) (unwritten Rule.room out)
+    cond (leb (length ws) (length out)) (written (WriteAnswer.Wrote (length ws)) (ws ++ drop (length ws) out)) (unwritten Rule.short out)
 
 -- an instruction's words, if it has any
 abbrev pub writeOf : Instr → List ℕ → Written
-writeOf i out = cond (valid i) (put (wordsOf i) out) (unwritten Rule.words out)
+writeOf i out = cond (valid i) (put (wordsOf i) out) (unwritten Rule.no-words out)

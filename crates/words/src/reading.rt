@@ -13,19 +13,16 @@ use instructions::instr::Instr;
 use instructions::instr::Op;
 use instructions::table::FoundOp;
 use instructions::table::op_of;
+use refusals::FIELD;
+use refusals::NO_SECOND;
+use refusals::NOT_CARRIED;
+use refusals::Refusal;
 
-// An instruction and how many words it has; or the number and the place of a refusal.
+// An instruction and how many words it has; or a refusal.
 pub enum ReadAnswer {
     Read { instr: Instr, words: usize },
-    Refused { number: u32, place: usize },
+    Refused(Refusal),
 }
-
-// The rules that reading tests, by their numbers.
-const CARRIED: u32 = 4;
-
-const SECOND: u32 = 5;
-
-const FIELD: u32 = 6;
 
 // The word at a place, 0 past the end.
 pub(crate) fn word_at(words: &[u32], at: usize) -> u32
@@ -107,10 +104,10 @@ fn read_fields(op: Op, limits: Limits, first: u32, word: u32, at: usize) -> Read
             words: size,
         }
     } else {
-        ReadAnswer::Refused {
+        ReadAnswer::Refused(Refusal {
             number: FIELD,
             place: at,
-        }
+        })
     }
 }
 
@@ -119,26 +116,26 @@ pub fn read_at(words: &[u32], at: usize) -> ReadAnswer
     ensures { λ r. ⌜ r ≡ readAt (now (words .entry)) at ⌝ }
 {
     if words.len() <= at {
-        return ReadAnswer::Refused {
-            number: SECOND,
+        return ReadAnswer::Refused(Refusal {
+            number: NO_SECOND,
             place: at,
-        };
+        });
     }
     let first = words[at];
     let found = op_of(first / 0x1000000, first / 16 % 16);
     let FoundOp::Carried(op) = found else {
-        return ReadAnswer::Refused {
-            number: CARRIED,
+        return ReadAnswer::Refused(Refusal {
+            number: NOT_CARRIED,
             place: at,
-        };
+        });
     };
     let limits = limits_of(op);
     let second = limits.second;
     if words.len() - at < size_of(second) {
-        return ReadAnswer::Refused {
-            number: SECOND,
+        return ReadAnswer::Refused(Refusal {
+            number: NO_SECOND,
             place: at,
-        };
+        });
     }
     let word = word_at(words, at + 1);
     read_fields(op, limits, first, word, at)

@@ -11,17 +11,15 @@ use instructions::instr::Guard;
 use instructions::instr::Instr;
 use instructions::table::modifier_of;
 use instructions::table::opcode_of;
+use refusals::NO_WORDS;
+use refusals::Refusal;
+use refusals::SHORT;
 
-// How many words were written; or the number and the place of a refusal.
+// How many words were written; or a refusal.
 pub enum WriteAnswer {
     Wrote { words: usize },
-    Refused { number: u32, place: usize },
+    Refused(Refusal),
 }
-
-// The rules that writing tests, by their numbers.
-const WORDS: u32 = 12;
-
-const ROOM: u32 = 13;
 
 // Negate in its place in word 0.
 fn negate_bit(guard: Guard) -> u32
@@ -65,20 +63,20 @@ pub fn write(instr: Instr, out: &mut [u32]) -> WriteAnswer
     ensures { λ r. ⌜ written r (now (out .exit)) ≡ writeOf instr (now (out .entry)) ⌝ }
 {
     if !is_valid(instr) {
-        return WriteAnswer::Refused {
-            number: WORDS,
+        return WriteAnswer::Refused(Refusal {
+            number: NO_WORDS,
             place: 0,
-        };
+        });
     }
     let op = instr.op;
     let limits = limits_of(op);
     let second = limits.second;
     let size = size_of(second);
     if out.len() < size {
-        return WriteAnswer::Refused {
-            number: ROOM,
+        return WriteAnswer::Refused(Refusal {
+            number: SHORT,
             place: 0,
-        };
+        });
     }
     out[0] = first_word(instr);
     if size == 2 {

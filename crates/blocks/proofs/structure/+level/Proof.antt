@@ -80,8 +80,8 @@ module _ (t : ℕ) where
   enum-told : level-lts.Need-enum-told (calls t) (level-at t) level.Post Inv-loop μ-loop
   enum-told c = search needs
 
-  add-t22 : level-lts.Need-add-t22 (calls t) (level-at t) level.Post Inv-loop μ-loop
-  add-t22 c = search needs
+  add-after : level-lts.Need-add-after (calls t) (level-at t) level.Post Inv-loop μ-loop
+  add-after c = search needs
 
   returns : level-lts.Need-returns (calls t) (level-at t) level.Post Inv-loop μ-loop
   returns c = closes (here (c .before .before)) (c .enum-told .given .1)
@@ -146,7 +146,7 @@ pub +level-spec : {M : Type 1} → statement M
     (loop-less t)
     (loop-again t)
     (enum-told t)
-    (add-t22 t)
+    (add-after t)
     (returns t)
     (enum-known-turn-2 t)
     (returns-2 t)

@@ -18,7 +18,7 @@ returns-3 : tie.Need-returns-3
 returns-3 c = key-budget _ (c .before .before .before .before .args .answer) _ (c .enum-told2 .given .1)
 
 returns-4 : tie.Need-returns-4
-returns-4 c = key-refused _ (c .before .before .before .before .before .args .answer) _ _ _ (c .before .outcome2 .given .1)
+returns-4 c = key-refused _ (c .before .before .before .before .args .answer) _ _ (c .enum-told3 .given .1)
 
 pub write-key-spec : {M : Type 1} → statement M
 write-key-spec = tie.close (tie.spec

@@ -15,7 +15,7 @@ returns c =
     let a = tested .before .before .before .before .before .before .args in
     ap (answered (c .refused .result) _ _) (unfilled (a .local .now) (filled .fill-local .ensures) (told .test .given .1))
     ∙ refused-by (tested .test-launch .ensures) _ (told .test .given .1)
-    (c .refused .ensures ∙ ap (refusedAs _ _) (c .before .not-launched .ensures))
+    (c .refused .ensures ∙ ap (refusedAs _) (c .before .not-launched .ensures))
 
 returns-2 : tie.Need-returns-2
 unfolding launchOf

@@ -18,7 +18,7 @@ returns-3 c = rw (c .before .outcome .given .1)
 
 returns-4 : tie.Need-returns-4
 unfolding stopped
-returns-4 c = rw (c .before .outcome2 .given .1)
+returns-4 c = rw (c .enum-told3 .given .1)
 
 pub is-stopped-spec : {M : Type 1} → statement M
 is-stopped-spec = tie.close (tie.spec

@@ -1,8 +1,8 @@
 -- The test of the fields: both answers are `readFields` by one law, from the parts that the callees answered.
 use mathlib.Core.Path.{_≡_}
 use mathlib.Core.Bool.{Bool, cond, _&&_}
+use Rattle.refusals.specs.Table.{Rule}
 use Rattle.words.specs.declared.reading.ReadAnswer.{ReadAnswer}
-use Rattle.words.specs.Refusals.{Rule}
 use Rattle.words.specs.Reading.{refused, readFields}
 use Rattle.words.proofs.ReadSteps.{fields-are}
 use borrow.Author.Needs.{needs}
