@@ -1,7 +1,7 @@
 // The lanes whose addresses fault.
 ghost use mathlib.Core.Path.{_≡_};
 ghost use mathlib.Core.Bool.{not, _&&_};
-ghost use Prim.Native.Nat.{_≤_, min};
+ghost use Prim.Native.Nat.{_≤_, min, max};
 ghost use lib.ListN.{getD, take};
 ghost use Rattle.ground.specs.Tests.{allOf};
 ghost use Rattle.lanes.specs.Sets.{widest, has, setOf};
@@ -37,20 +37,30 @@ fn past_end(address: u32, words: u32) -> bool
     words <= address / 4
 }
 
-// Whether every lane's address, of the lanes that do not execute too, is a multiple of 4 and within a memory of so many words.
+// The larger of two numbers.
+fn larger(a: u32, b: u32) -> u32
+    ensures { λ r. ⌜ r ≡ max a b ⌝ }
+{
+    if a < b { b } else { a }
+}
+
+// Whether every lane's address, of the lanes that do not execute too, is a multiple of 4 and within a memory of so many words: by the bits
+// that any address has, and by how many words they reach through.
 fn all_reach(at: [u32; 32], words: u32, width: u32) -> bool
     requires { ⌜ width ≤ widest ⌝ }
     ensures { λ r. ⌜ r ≡ allOf (inReach words) (take width at) ⌝ }
 {
     let end = width as usize;
-    let mut all = true;
+    let mut bits: u32 = 0;
+    let mut top: u32 = 0;
     let mut k: usize = 0;
     while k < end {
         let address = at[k];
-        all = all & ((address % 4 == 0) & !past_end(address, words));
+        bits = bits | address;
+        top = larger(top, address / 4 + 1);
         k += 1;
     }
-    all
+    (bits % 4 == 0) & (top <= words)
 }
 
 // The lanes of `t` that can't reach their addresses, in a memory of so many words.

@@ -1,26 +1,29 @@
 -- `faulting::addresses::all_reach` meets its contract: at turn k the addresses from k on still decide.
 use mathlib.Core.Path.{_≡_, refl, sym, ap, _∙_}
-use mathlib.Core.Bool.{Bool, not, _&&_}
+use mathlib.Core.Bool.{_&&_}
 use Prim.Native.Nat.{ℕ, _-_, _%_, _<_}
 use native.Mathlib.Omega.{arith}
-use lib.Dec.{eqb}
+use lib.Bits.{bitOr}
+use lib.Dec.{eqb, leb}
 use lib.ListN.{length, getD, take, drop}
 use lib.Seq.{length-take-le, getD-take}
 use borrow.Author.Needs.{needs}
+use borrow.Author.Tests.{le-leb}
 use Rattle.ground.specs.Tests.{allOf}
 use Rattle.faulting.specs.Causes.{inReach}
-use Rattle.faulting.proofs.Reaching.{asked-more, asked-all}
+use Rattle.faulting.proofs.Reaching.{asked-more, asked-all, reach-more}
 use Rattle.faulting.proofs.addresses.all_reach.Statement.{statement}
 use Rattle.faulting.proofs.addresses.all_reach.Tie as tie
 
 abbrev Inv-loop : tie.InvT-loop
-Inv-loop words width at end all₀ k₀ all k = allOf (inReach words) (take width at) ≡ (all && allOf (inReach words) (drop k (take width at)))
+Inv-loop words width at end bits₀ top₀ k₀ bits top k =
+    allOf (inReach words) (take width at) ≡ ((eqb (bits % 4) 0 && leb top words) && allOf (inReach words) (drop k (take width at)))
 
 abbrev μ-loop : tie.MeasureT-loop
-μ-loop words width at end all₀ k₀ all k = end - k
+μ-loop words width at end bits₀ top₀ k₀ bits top k = end - k
 
 loop-holds : tie.Need-loop-holds Inv-loop μ-loop
-loop-holds c = refl
+loop-holds c = rw (le-leb 0 (c .args .words) (omega arith)) refl
 
 -- as many addresses as the wave has lanes
 wide : (z : tie.Start Inv-loop μ-loop) → length (take (z .args .width) (z .args .t1)) ≡ z .args .width
@@ -32,18 +35,20 @@ loop-again c =
     let z = c .before .before .before in
     let a = z .args in
     let b : h .k < a .width = omega (arith, c .before .loop-test .taken) in
-    asked-more (inReach (a .words)) (take (a .width) (a .t1)) (h .k) (h .all) _ (omega (arith, wide z)) (h .inv)
-    (ap (λ (p : Bool). h .all && (eqb (getD (a .t1) (h .k) 0 % 4) 0 && not p)) (c .past-end .ensures)
-    ∙ ap (λ (x : ℕ). h .all && inReach (a .words) x) (sym (getD-take (a .width) (a .t1) (h .k) 0 b)))
+    let address = getD (a .t1) (h .k) 0 in
+    asked-more (inReach (a .words)) (take (a .width) (a .t1)) (h .k) (eqb (h .bits % 4) 0 && leb (h .top) (a .words)) _ (omega (arith, wide z)) (h .inv)
+    (ap (λ (n : ℕ). eqb (bitOr (h .bits) address % 4) 0 && leb n (a .words)) (c .larger .ensures)
+    ∙ reach-more (h .bits) (h .top) address (a .words)
+    ∙ ap (λ (x : ℕ). (eqb (h .bits % 4) 0 && leb (h .top) (a .words)) && inReach (a .words) x) (sym (getD-take (a .width) (a .t1) (h .k) 0 b)))
 
 returns : tie.Need-returns Inv-loop μ-loop
 returns c =
     let h = c .before .loop in
     let z = c .before .before in
     let a = z .args in
-    asked-all (inReach (a .words)) (take (a .width) (a .t1)) (h .k) (h .all) (omega (arith, wide z, c .loop-test .left)) (h .inv)
+    asked-all (inReach (a .words)) (take (a .width) (a .t1)) (h .k) (eqb (h .bits % 4) 0 && leb (h .top) (a .words)) (omega (arith, wide z, c .loop-test .left)) (h .inv)
 
 pub all-reach-spec : {M : Type 1} → statement M
 all-reach-spec = tie.close (tie.spec
-    Inv-loop μ-loop loop-holds (λ c. omega arith) (λ c. omega arith) (λ c κs. search needs) (λ c. omega arith) (λ c. omega arith)
+    Inv-loop μ-loop loop-holds (λ c. omega arith) (λ c. omega arith) (λ c. search needs) (λ c κs. search needs) (λ c. omega arith) (λ c. omega arith)
     loop-again returns)
