@@ -23,7 +23,7 @@ use Rattle.faulting.specs.Kinds.{lanesOfKind}
 use Rattle.faulting.proofs.KindsApart.{Apart}
 use Rattle.replay.specs.declared.settings.Settings.{Settings}
 use Rattle.replay.specs.Machine.{Machine}
-use Rattle.replay.specs.Replay.{mostWords}
+use Rattle.replay.specs.Replay.{mostWords, readingOf}
 use Rattle.runs.proofs.Keeping.{inside}
 use Rattle.runs.proofs.Stopping.{FaultsAt}
 use Rattle.replay.proofs.FaultKinds.{Faulty, step-faulty, step-apart, Lanes, step-lanes}
@@ -73,10 +73,10 @@ module _ (s : Settings) (code : List ℕ) (l : Launchable s code) (m : Machine) 
       ))
 
   room : length (m .wave .path) ≤ mostDepth
-  room = path-room code (s .registers) (s .lanes) (m .wave) (m .preds) (o .fits)
+  room = path-room code (readingOf s) (s .lanes) (m .wave) (m .preds) (o .fits)
 
   blocks-sized : AllSized (length code) (m .wave .path)
-  blocks-sized = path-sized code (s .registers) (s .lanes) (lanes-most s code l) (m .wave) (m .preds) (o .fits)
+  blocks-sized = path-sized code (readingOf s) (s .lanes) (lanes-most s code l) (m .wave) (m .preds) (o .fits)
 
   -- every number is below 2^32, so that there is room for it
   pub machine-room : kernel < bound → bodyFormat setBytes .fits (partsOf kernel f (stateOf (m .wave) (m .preds))) ≡ true

@@ -101,7 +101,7 @@ other-outcome : _≡_ {A = ℕ} 0 1 → ⊥
 other-outcome e = omega arith
 
 -- the table's launches pass the tests, with W 8 and R 2
-lawful : (n : ℕ) (words : List ℕ) → leb 1 n ≡ true → leb n 8 ≡ true → leb (length words) mostWords ≡ true → checkOf (codeOf words 2) ≡ Fine
+lawful : (n : ℕ) (words : List ℕ) → leb 1 n ≡ true → leb n 8 ≡ true → leb (length words) mostWords ≡ true → checkOf (codeOf words (record { registers = 2 })) ≡ Fine
     → (b : ℕ) → Launchable (settings 8 n 2 b) words
 lawful n words some few short checked b =
     record {
