@@ -11,7 +11,7 @@ ghost use lib.ListN.{length};
 ghost use Rattle.body.specs.Body.{Fault, Parts};
 ghost use Rattle.body.specs.Layout.{partsAt, isBody};
 ghost use Rattle.dayfile.specs.Read.{bodiesOf, refusalOf, firstsOf};
-ghost use Rattle.listing.specs.Decimal.{Puts};
+ghost use Rattle.numbers.specs.Placed.{Puts};
 ghost use Rattle.listing.specs.Text.{textRoom, kindsText, line, lines, distinct, totalLine, tableText};
 
 // Puts the kinds of a body's fault, a comma between two.

@@ -14,7 +14,7 @@ use operands::fields_of;
 use operands::operands_of;
 use pieces::put_pieces;
 ghost use mathlib.Core.Path.{_≡_};
-ghost use Rattle.naming.specs.Pieces.{Puts};
+ghost use Rattle.numbers.specs.Placed.{Puts};
 ghost use Rattle.naming.specs.Text.{textOf};
 ghost use Rattle.naming.specs.Writing.{written, putIn, textIn};
 
