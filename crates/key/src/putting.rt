@@ -9,11 +9,12 @@ use faulting::faults::KINDS;
 use faulting::faults::lanes_of_kind;
 use lanes::Lanes;
 use numbers::put;
+use numbers::put_words;
 use wave::state::BLOCK_NUMBERS;
 use wave::state::State;
 use wave::state::whole;
 ghost use mathlib.Core.Path.{_≡_};
-ghost use Prim.Native.Nat.{_+_, _*_, _≤_};
+ghost use Prim.Native.Nat.{_≤_};
 ghost use lib.Dec.{eqb};
 ghost use lib.ListN.{length};
 ghost use mathlib.Core.Bool.{cond};
@@ -71,20 +72,6 @@ fn put_kinds(f: Faults, out: &mut [u8]) -> usize
     at
 }
 
-// Puts numbers into `out` from `at` on.
-fn put_numbers(numbers: &[u32], at: usize, out: &mut [u8])
-    requires { ⌜ at + 4 * length (now numbers) ≤ room ⌝ }
-    ensures { λ _. ⌜ (now (out .exit) ≡ placed (now (out .entry)) at (bytesOfAll (now (numbers .entry)))) × Small (now (numbers .entry)) ⌝ }
-{
-    let mut k: usize = 0;
-    let mut q = at;
-    while k < numbers.len() {
-        put(out, q, numbers[k]);
-        q += 4;
-        k += 1;
-    }
-}
-
 // Puts kernel number, place and fault kinds, with their count, at the front of `out`, and answers the place behind them.
 fn put_head(kernel: u32, place: u32, f: Faults, out: &mut [u8]) -> usize
     ensures { λ r. ⌜ (after r (now (out .exit)) ≡ afterNumbers (headNumbers kernel place f) 0 (now (out .entry))) × Small (headNumbers kernel place f) ⌝ }
@@ -107,7 +94,7 @@ fn put_state(state: State, at: usize, out: &mut [u8])
     put(out, at + 4, hot.halted);
     put(out, at + 8, hot.depth);
     let open = BLOCK_NUMBERS * (hot.depth as usize);
-    put_numbers(&blocks[..open], at + 12, out);
+    put_words(out, at + 12, &blocks[..open]);
 }
 
 // Puts the body of a fault at the front of `out`, as far as it fits.

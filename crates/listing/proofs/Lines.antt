@@ -11,8 +11,8 @@ use lib.Seq.{drop-cons, take-at}
 use mathlib.Core.Logic.{⊎-elim}
 use borrow.Author.Tests.{eq-eqb, ne-eqb, eqb-true, lt-ltb, le-ltb}
 use Rattle.ground.specs.Tests.{allOf}
-use Rattle.numbers.specs.Placed.{placed}
-use Rattle.numbers.proofs.Placing.{placed-append, placed-nil, placed-front, length-placed}
+use Rattle.numbers.specs.Placed.{placed, Puts}
+use Rattle.numbers.proofs.Placing.{placed-append, placed-nil, placed-front, length-placed, puts-join, puts-same, puts-kept}
 use Rattle.lanes.specs.declared.said.Fault.{Fault}
 use Rattle.body.specs.Body.{setBytes, partsAt}
 use Rattle.body.specs.Layout.{kindLists, isBody}
@@ -25,11 +25,11 @@ use Rattle.dayfile.proofs.Lists.{all-first, all-rest, count-bodies, accepted-li
 use Rattle.dayfile.proofs.Records.{file-room, record-here, length-firsts, count-says, refused-count-says}
 use Rattle.dayfile.specs.declared.answer.CountAnswer.{CountAnswer}
 use Rattle.dayfile.specs.declared.answer.CountAnswer.the-variants.{Count, Refused as NotCounted}
-use Rattle.listing.specs.Decimal.{field, Puts}
+use Rattle.listing.specs.Decimal.{field}
 use Rattle.listing.specs.Text.{mostBytes, textRoom, space, comma, newline, kindsText, line, lines, distinct, totalLine, tableText, textOf}
 use Rattle.listing.specs.Text.{headText, totalText, distinctText, refusedText, longText}
 use Rattle.listing.proofs.Places.{field-long}
-use Rattle.listing.proofs.Putting.{puts-join, puts-same, puts-kept, puts-near}
+use Rattle.listing.proofs.Putting.{puts-near}
 
 -- the kinds of a body
 abbrev kindsOf : List ℕ → List ℕ

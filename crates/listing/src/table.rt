@@ -17,7 +17,7 @@ ghost use Rattle.lanes.specs.declared.said.Fault.{Fault};
 ghost use Rattle.body.specs.Body.{Parts, partsAt};
 ghost use Rattle.body.specs.Layout.{isBody};
 ghost use Rattle.dayfile.specs.Read.{bodiesOf, refusalOf, firstsOf};
-ghost use Rattle.listing.specs.Decimal.{Puts};
+ghost use Rattle.numbers.specs.Placed.{Puts};
 ghost use Rattle.listing.specs.Text.{textRoom, kindsText, line, lines, distinct, totalLine, tableText};
 
 // Puts the kinds of a body's fault, a comma between two.
