@@ -1,7 +1,8 @@
 // Cases and answers as numbers: four bytes each, low byte first. Places are counted in bytes.
 use numbers::get;
-use numbers::put;
+use numbers::get_words;
 use numbers::put_bytes;
+use numbers::put_words;
 use std::num::wrapping_add_usize;
 
 // The byte that fills what is lent for output.
@@ -25,26 +26,14 @@ pub(crate) fn low(n: usize) -> u32 {
 
 // Fills words with the numbers of a case from place `at` on, and answers the place behind them.
 pub(crate) fn take_words(case: &[u8], at: usize, words: &mut [u32]) -> usize {
-    let mut q = at;
-    let mut i: usize = 0;
-    while i < words.len() {
-        words[i] = get(case, q);
-        q = wrapping_add_usize(q, 4);
-        i += 1;
-    }
-    q
+    get_words(case, at, words);
+    wrapping_add_usize(at, 4 * words.len())
 }
 
 // Puts numbers into an answer from place `at` on, and answers the place behind them.
 pub(crate) fn give_words(out: &mut [u8], at: usize, words: &[u32]) -> usize {
-    let mut q = at;
-    let mut i: usize = 0;
-    while i < words.len() {
-        put(out, q, words[i]);
-        q = wrapping_add_usize(q, 4);
-        i += 1;
-    }
-    q
+    put_words(out, at, words);
+    wrapping_add_usize(at, 4 * words.len())
 }
 
 // Puts a refusal's number and place, and a length, and answers the place behind them.

@@ -1,5 +1,6 @@
 // Runs the code's check on the cases of the standard input. A case is a line of words of eight hexadecimal digits, with a space between two:
 // the number of registers, then the code. For each it writes a line, `fine` or the refusal's number and place.
+use blocks::item::Reading;
 use blocks::structure;
 use blocks::structure::Checked;
 use libc::STDIN_FILENO;
@@ -40,8 +41,8 @@ fn report(case: [u32; LONGEST], count: usize) {
     if LONGEST < count {
         return;
     }
-    let registers = case[0];
-    let answer = structure::check(&case[1..count], registers);
+    let reading = Reading { registers: case[0] };
+    let answer = structure::check(&case[1..count], reading);
     match answer {
         Checked::Fine => {
             io::write_all(STDOUT_FILENO, b"fine");

@@ -13,6 +13,7 @@ use borrow.Author.Tests.{lt-ltb, le-ltb}
 use Rattle.refusals.specs.declared.Refusal.{Refusal}
 use Rattle.refusals.specs.Table.{Rule, broken}
 use Rattle.blocks.specs.declared.item.Item.{Item}
+use Rattle.blocks.specs.declared.item.Reading.{Reading}
 use Rattle.blocks.specs.declared.rules.Inside.{Inside}
 use Rattle.blocks.specs.declared.structure.Checked.the-variants.{Refused}
 use Rattle.blocks.specs.Code.{Code, codeOf}
@@ -47,23 +48,23 @@ breaks-stops o Item.Jump r at (stray-jump e) = rw e refl
 breaks-stops o Item.If r at (deep-if e) = rw (le-ltb (length o) nesting (omega arith)) refl
 breaks-stops o Item.Loop r at (deep-loop e) = rw (le-ltb (length o) nesting (omega arith)) refl
 
-module _ (words : List ℕ) (R : ℕ) where
+module _ (words : List ℕ) (by : Reading) where
   abbrev kernel : Code
-  kernel = codeOf words R
+  kernel = codeOf words by
 
   fits : Fits kernel
-  fits = code-fits words R
+  fits = code-fits words by
 
-  broken-refused : (r : Refusal) → Broken words R r → checkOf kernel ≡ Refused r
+  broken-refused : (r : Refusal) → Broken words by r → checkOf kernel ≡ Refused r
   unfolding react ended
   broken-refused r (at-words {room} {at} {o = o} x h b) =
-      opened-run words R room o at x ∙ run-to kernel fits at o (over (Refused r)) h (ap (λ (i : Item). react i at o) (bad-if words R at h r .1 b))
+      opened-run words by room o at x ∙ run-to kernel fits at o (over (Refused r)) h (ap (λ (i : Item). react i at o) (bad-if words by at h r .1 b))
   broken-refused r (at-instruction {room} {at} {o = o} {item = item} x h b) =
-      let s = has-seen words R at item h in
-      opened-run words R room o at x
+      let s = has-seen words by at item h in
+      opened-run words by room o at x
       ∙ run-to kernel fits at o (over (Refused r)) (s .0) (ap (λ (i : Item). react i at o) (s .1) ∙ breaks-stops o item r at b)
   broken-refused r (at-end {room} {p} {part = part} {o = o} x) =
-      opened-run words R room (open-at part p ∷ o) (kernel .size) x
+      opened-run words by room (open-at part p ∷ o) (kernel .size) x
       ∙ run-past kernel fits (kernel .size) (open-at part p ∷ o) (omega arith)
 
 -- ---- and one that stops the pass breaks a rule
@@ -123,40 +124,40 @@ breaks-carried o at Item.Jump r (stray-jump e) = tt
 breaks-carried o at Item.If r (deep-if e) = tt
 breaks-carried o at Item.Loop r (deep-loop e) = tt
 
-module _ (words : List ℕ) (R : ℕ) (r : Refusal) where
+module _ (words : List ℕ) (by : Reading) (r : Refusal) where
   abbrev code : Code
-  code = kernel words R
+  code = kernel words by
 
-  broken-as : (q : Refusal) → Broken words R q → Refused q ≡ Refused r → Broken words R r
-  broken-as q b e = subst (Broken words R) (same-refusal q r e) b
+  broken-as : (q : Refusal) → Broken words by q → Refused q ≡ Refused r → Broken words by r
+  broken-as q b e = subst (Broken words by) (same-refusal q r e) b
 
-  by-end : (room at : ℕ) (o : List Open) → at ≡ code .size → Opened words R room o at → ended o ≡ Refused r → Broken words R r
+  by-end : (room at : ℕ) (o : List Open) → at ≡ code .size → Opened words by room o at → ended o ≡ Refused r → Broken words by r
   unfolding ended
   by-end room at [] e x f = refused-not-fine r (sym f)
   by-end room at (open-at part p ∷ o) e x f = broken-as (broken Rule.unclosed p) (at-end (rw e at x)) f
 
   -- by the words alone, or by a rule of blocks
-  by-rule : (room at : ℕ) (q : Refusal) (o : List Open) → Opened words R room o at → at < code .size
-      → (code .item at ≡ Item.Bad q) ⊎ Misplaced o at (code .item at) q → Broken words R q
-  by-rule room at q o x h (inl e) = at-words x h (bad-if words R at h q .0 e)
-  by-rule room at q o x h (inr b) = at-instruction x (has words R at h (code .item at) (breaks-carried o at (code .item at) q b) refl) b
+  by-rule : (room at : ℕ) (q : Refusal) (o : List Open) → Opened words by room o at → at < code .size
+      → (code .item at ≡ Item.Bad q) ⊎ Misplaced o at (code .item at) q → Broken words by q
+  by-rule room at q o x h (inl e) = at-words x h (bad-if words by at h q .0 e)
+  by-rule room at q o x h (inr b) = at-instruction x (has words by at h (code .item at) (breaks-carried o at (code .item at) q b) refl) b
 
-  by-next : (at : ℕ) (o : List Open) (room : ℕ) → Opened words R room o at → at < code .size
-      → ((room a : ℕ) (q : List Open) → at < a → a ≤ code .size → Opened words R room q a → run code a q ≡ Refused r → Broken words R r)
-      → (x : Next) → Moves at (code .size) x → Led words R x → Stopped (code .item at) o at x → carry (λ v. v) (run code) x ≡ Refused r → Broken words R r
+  by-next : (at : ℕ) (o : List Open) (room : ℕ) → Opened words by room o at → at < code .size
+      → ((room a : ℕ) (q : List Open) → at < a → a ≤ code .size → Opened words by room q a → run code a q ≡ Refused r → Broken words by r)
+      → (x : Next) → Moves at (code .size) x → Led words by x → Stopped (code .item at) o at x → carry (λ v. v) (run code) x ≡ Refused r → Broken words by r
   by-next at o room y h further (over v) m l s f = broken-as (s .0) (by-rule room at (s .0) o y h (s .2)) (sym (s .1) ∙ f)
   by-next at o room y h further (go a q) m l s f = further (l .0) a q (m .0) (m .1) (l .1) f
 
-  first-broken : (k room at : ℕ) (o : List Open) → code .size ≤ at + k → at ≤ code .size → Opened words R room o at → run code at o ≡ Refused r
-      → Broken words R r
-  first-broken zero room at o a b x f = by-end room at o (omega arith) x (sym (run-past code (fits words R) at o (omega arith)) ∙ f)
+  first-broken : (k room at : ℕ) (o : List Open) → code .size ≤ at + k → at ≤ code .size → Opened words by room o at → run code at o ≡ Refused r
+      → Broken words by r
+  first-broken zero room at o a b x f = by-end room at o (omega arith) x (sym (run-past code (fits words by) at o (omega arith)) ∙ f)
   first-broken (suc k) room at o a b x f =
       dite (decLt at (code .size))
-      (λ h. by-next at o room x h (λ room′ a′ q c d y s. first-broken k room′ a′ q (omega arith) d y s) (step code at o) (step-moves code (fits words R) at o)
-      (led-step words R at o (room, x)) (rw (step-in code at o h) (stopped (code .item at) o at (omega (arith, opened-room words R room o at x))))
-      (sym (run-step code (fits words R) at o) ∙ f))
-      (λ h. by-end room at o (omega arith) x (sym (run-past code (fits words R) at o (omega arith)) ∙ f))
+      (λ h. by-next at o room x h (λ room′ a′ q c d y s. first-broken k room′ a′ q (omega arith) d y s) (step code at o) (step-moves code (fits words by) at o)
+      (led-step words by at o (room, x)) (rw (step-in code at o h) (stopped (code .item at) o at (omega (arith, opened-room words by room o at x))))
+      (sym (run-step code (fits words by) at o) ∙ f))
+      (λ h. by-end room at o (omega arith) x (sym (run-past code (fits words by) at o (omega arith)) ∙ f))
 
   -- CODE IS REFUSED exactly by the first rule that it breaks, at its place
-  pub refused-if : (checkOf code ≡ Refused r) ↔ Broken words R r
-  refused-if = (first-broken (code .size) nesting 0 [] (omega arith) (omega arith) (outside nothing), broken-refused words R r)
+  pub refused-if : (checkOf code ≡ Refused r) ↔ Broken words by r
+  refused-if = (first-broken (code .size) nesting 0 [] (omega arith) (omega arith) (outside nothing), broken-refused words by r)

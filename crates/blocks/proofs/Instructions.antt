@@ -11,6 +11,7 @@ use Rattle.instructions.specs.Forms.{limitsOf, sizeOf}
 use Rattle.words.specs.Reading.{readAt}
 use Rattle.instructions.specs.Registers.{registersBelow}
 use Rattle.blocks.specs.declared.item.Item.{Item}
+use Rattle.blocks.specs.declared.item.Reading.{Reading}
 use Rattle.blocks.specs.declared.structure.Checked.the-variants.{Fine}
 use Rattle.blocks.specs.Item.{itemOf, seen, itemAt}
 use Rattle.blocks.specs.Code.{Code, codeOf}
@@ -21,13 +22,13 @@ use Rattle.blocks.proofs.Widths.{read-wide, code-fits}
 use Rattle.blocks.proofs.Theorems.{Allowed, allowed}
 
 -- an instruction that is read at a place, its width, and what the blocks see of it
-pub record Instruction (words : List ℕ) (registers at : ℕ) : Type 0 where
+pub record Instruction (words : List ℕ) (by : Reading) (at : ℕ) : Type 0 where
   pub instr : Instr
   pub width : ℕ
   pub reads : readAt words at ≡ ReadAnswer.Read instr width
-  pub below : registersBelow registers instr ≡ true
+  pub below : registersBelow (by .registers) instr ≡ true
   pub wide : width ≡ sizeOf (limitsOf (instr .op) .second)
-  pub item-is : itemAt words registers at ≡ itemOf (instr .op) width
+  pub item-is : itemAt words by at ≡ itemOf (instr .op) width
 
 abbrev NotBad : Item → Type 0
 NotBad (Item.Plain w) = Unit {0}
@@ -49,9 +50,9 @@ not-bad code Item.Jump at o a = tt
 not-bad code Item.Endloop at o a = tt
 not-bad code (Item.Bad r) at o a = a
 
-module _ (words : List ℕ) (registers at : ℕ) where
-  below-seen : (i : Instr) (n : ℕ) → readAt words at ≡ ReadAnswer.Read i n → (b : Bool) → registersBelow registers i ≡ b
-      → NotBad (cond b (itemOf (i .op) n) (Item.Bad (broken Rule.register at))) → Instruction words registers at
+module _ (words : List ℕ) (by : Reading) (at : ℕ) where
+  below-seen : (i : Instr) (n : ℕ) → readAt words at ≡ ReadAnswer.Read i n → (b : Bool) → registersBelow (by .registers) i ≡ b
+      → NotBad (cond b (itemOf (i .op) n) (Item.Bad (broken Rule.register at))) → Instruction words by at
   below-seen i n e true f ok =
       record {
         instr = i;
@@ -59,17 +60,17 @@ module _ (words : List ℕ) (registers at : ℕ) where
         reads = e;
         below = f;
         wide = read-wide words at i n e .0;
-        item-is = seen-whole words registers at e f;
+        item-is = seen-whole words by at e f;
       }
   below-seen i n e false f ok = absurd ok
 
-  read-seen : (a : ReadAnswer) → readAt words at ≡ a → NotBad (seen registers at a) → Instruction words registers at
-  read-seen (ReadAnswer.Read i n) e ok = below-seen i n e (registersBelow registers i) refl ok
+  read-seen : (a : ReadAnswer) → readAt words at ≡ a → NotBad (seen by at a) → Instruction words by at
+  read-seen (ReadAnswer.Read i n) e ok = below-seen i n e (registersBelow (by .registers) i) refl ok
   read-seen (ReadAnswer.Refused r) e ok = absurd ok
 
-  pub instruction-there : checkOf (codeOf words registers) ≡ Fine → (o : List Open) → openAt (codeOf words registers) at ≡ there o → at < length words
-      → Instruction words registers at
+  pub instruction-there : checkOf (codeOf words by) ≡ Fine → (o : List Open) → openAt (codeOf words by) at ≡ there o → at < length words
+      → Instruction words by at
   unfolding itemAt
   instruction-there checked o here h =
       read-seen (readAt words at) refl
-      (not-bad (codeOf words registers) (itemAt words registers at) at o (allowed (codeOf words registers) (code-fits words registers) checked at o here h))
+      (not-bad (codeOf words by) (itemAt words by at) at o (allowed (codeOf words by) (code-fits words by) checked at o here h))

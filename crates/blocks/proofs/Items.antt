@@ -10,20 +10,21 @@ use Rattle.words.specs.declared.reading.ReadAnswer.{ReadAnswer}
 use Rattle.words.specs.Reading.{readAt}
 use Rattle.instructions.specs.Registers.{registersBelow}
 use Rattle.blocks.specs.declared.item.Item.{Item}
+use Rattle.blocks.specs.declared.item.Reading.{Reading}
 use Rattle.blocks.specs.Item.{itemOf, seen, itemAt}
 
-module _ (words : List ℕ) (registers at : ℕ) where
-  by-registers : {i : Instr} {n : ℕ} (b : Bool) → readAt words at ≡ ReadAnswer.Read i n → registersBelow registers i ≡ b
-      → itemAt words registers at ≡ cond b (itemOf (i .op) n) (Item.Bad (broken Rule.register at))
+module _ (words : List ℕ) (by : Reading) (at : ℕ) where
+  by-registers : {i : Instr} {n : ℕ} (b : Bool) → readAt words at ≡ ReadAnswer.Read i n → registersBelow (by .registers) i ≡ b
+      → itemAt words by at ≡ cond b (itemOf (i .op) n) (Item.Bad (broken Rule.register at))
   unfolding itemAt
-  by-registers {i} {n} b e f = ap (seen registers at) e ∙ ap (λ (x : Bool). cond x (itemOf (i .op) n) (Item.Bad (broken Rule.register at))) f
+  by-registers {i} {n} b e f = ap (seen by at) e ∙ ap (λ (x : Bool). cond x (itemOf (i .op) n) (Item.Bad (broken Rule.register at))) f
 
-  pub seen-whole : {i : Instr} {n : ℕ} → readAt words at ≡ ReadAnswer.Read i n → registersBelow registers i ≡ true → itemAt words registers at ≡ itemOf (i .op) n
+  pub seen-whole : {i : Instr} {n : ℕ} → readAt words at ≡ ReadAnswer.Read i n → registersBelow (by .registers) i ≡ true → itemAt words by at ≡ itemOf (i .op) n
   seen-whole e f = by-registers true e f
 
-  pub seen-past : {i : Instr} {n : ℕ} → readAt words at ≡ ReadAnswer.Read i n → registersBelow registers i ≡ false → itemAt words registers at ≡ Item.Bad (broken Rule.register at)
+  pub seen-past : {i : Instr} {n : ℕ} → readAt words at ≡ ReadAnswer.Read i n → registersBelow (by .registers) i ≡ false → itemAt words by at ≡ Item.Bad (broken Rule.register at)
   seen-past e f = by-registers false e f
 
-  pub seen-refused : {r : Refusal} → readAt words at ≡ ReadAnswer.Refused r → itemAt words registers at ≡ Item.Bad r
+  pub seen-refused : {r : Refusal} → readAt words at ≡ ReadAnswer.Refused r → itemAt words by at ≡ Item.Bad r
   unfolding itemAt
-  seen-refused e = ap (seen registers at) e
+  seen-refused e = ap (seen by at) e

@@ -12,6 +12,7 @@ use lib.Dec.{ltb}
 use borrow.Author.Tests.{lt-ltb, le-ltb}
 use Rattle.refusals.specs.Table.{Rule, broken}
 use Rattle.blocks.specs.declared.item.Item.{Item}
+use Rattle.blocks.specs.declared.item.Reading.{Reading}
 use Rattle.blocks.specs.declared.structure.Checked.the-variants.{Fine, Refused}
 use Rattle.blocks.specs.Code.{Code, codeOf}
 use Rattle.blocks.specs.Scan.{nesting, Part, before, after, looping, Open, open-at, in-loop}
@@ -27,19 +28,19 @@ use Rattle.blocks.proofs.Theorems.{none-at-the-end}
 
 -- ---- what each step of the pass keeps, whole blocks keep
 
-module _ (words : List ℕ) (R : ℕ) (P : ℕ → List Open → Type 0)
-    (kept : (at : ℕ) (o : List Open) (a : ℕ) (q : List Open) → P at o → step (codeOf words R) at o ≡ go a q → P a q) where
-  moved : (i : Item) (at : ℕ) (o : List Open) (a : ℕ) (q : List Open) → Has words R at i → react i at o ≡ go a q → P at o → P a q
+module _ (words : List ℕ) (by : Reading) (P : ℕ → List Open → Type 0)
+    (kept : (at : ℕ) (o : List Open) (a : ℕ) (q : List Open) → P at o → step (codeOf words by) at o ≡ go a q → P a q) where
+  moved : (i : Item) (at : ℕ) (o : List Open) (a : ℕ) (q : List Open) → Has words by at i → react i at o ≡ go a q → P at o → P a q
   moved i at o a q h e p =
-      let s = has-seen words R at i h in
-      kept at o a q p (step-in (codeOf words R) at o (s .0) ∙ ap (λ (j : Item). react j at o) (s .1) ∙ e)
+      let s = has-seen words by at i h in
+      kept at o a q p (step-in (codeOf words by) at o (s .0) ∙ ap (λ (j : Item). react j at o) (s .1) ∙ e)
 
-  entered : (i : Item) (part : Part) (at : ℕ) (o : List Open) → Has words R at i
+  entered : (i : Item) (part : Part) (at : ℕ) (o : List Open) → Has words by at i
       → react i at o ≡ cond (ltb (length o) nesting) (go (at + 1) (open-at part at ∷ o)) (over (Refused (broken Rule.depth at))) → length o < nesting
       → P at o → P (at + 1) (open-at part at ∷ o)
   entered i part at o h e b = moved i at o (at + 1) (open-at part at ∷ o) h (e ∙ rw (lt-ltb (length o) nesting b) refl)
 
-  passed : (room : ℕ) (looped : Bool) (at to : ℕ) → Whole words R room looped at to → (o : List Open) → length o + room ≡ nesting → in-loop o ≡ looped
+  passed : (room : ℕ) (looped : Bool) (at to : ℕ) → Whole words by room looped at to → (o : List Open) → length o + room ≡ nesting → in-loop o ≡ looped
       → P at o → P to o
   unfolding react in-loop
   passed room looped at to nothing o r l p = p
@@ -66,7 +67,7 @@ module _ (words : List ℕ) (R : ℕ) (P : ℕ → List Open → Type 0)
       (entered Item.Loop looping at o h refl (omega arith) p)))
 
   -- so it holds wherever these blocks are open
-  pub at-opened : P 0 [] → (room : ℕ) (o : List Open) (at : ℕ) → Opened words R room o at → (length o + room ≡ nesting) × P at o
+  pub at-opened : P 0 [] → (room : ℕ) (o : List Open) (at : ℕ) → Opened words by room o at → (length o + room ≡ nesting) × P at o
   unfolding react in-loop
   at-opened s room o at (outside w) = (refl, passed nesting false 0 at w [] refl refl s)
   at-opened s room (open-at before p ∷ o) at (in-first _ x h w) =
@@ -89,16 +90,16 @@ module _ (words : List ℕ) (R : ℕ) (P : ℕ → List Open → Type 0)
       )
 
 -- the room and the open blocks make up the nesting
-pub opened-room : (words : List ℕ) (R room : ℕ) (o : List Open) (at : ℕ) → Opened words R room o at → length o + room ≡ nesting
-opened-room words R room o at x = at-opened words R (λ a q. Unit {0}) (λ at o a q p f. tt) tt room o at x .0
+pub opened-room : (words : List ℕ) (by : Reading) (room : ℕ) (o : List Open) (at : ℕ) → Opened words by room o at → length o + room ≡ nesting
+opened-room words by room o at x = at-opened words by (λ a q. Unit {0}) (λ at o a q p f. tt) tt room o at x .0
 
 -- ---- each step of the pass keeps to what the code has open
 
-module _ (words : List ℕ) (R : ℕ) where
+module _ (words : List ℕ) (by : Reading) where
   abbrev code : Code
-  code = codeOf words R
+  code = codeOf words by
 
-  append : (room : ℕ) (looped : Bool) (at next to : ℕ) → Whole words R room looped at next → Whole words R room looped next to → Whole words R room looped at to
+  append : (room : ℕ) (looped : Bool) (at next to : ℕ) → Whole words by room looped at next → Whole words by room looped next to → Whole words by room looped at to
   append room looped at next to nothing v = v
   append room looped at next to (plain w h rest) v = plain w h (append room looped (at + w) next to rest v)
   append room looped at next to (jump h rest) v = jump h (append room true (at + 1) next to rest v)
@@ -108,7 +109,7 @@ module _ (words : List ℕ) (R : ℕ) where
   append (suc room) looped at next to (loop end h body f rest) v = loop end h body f (append (suc room) looped (end + 1) next to rest v)
 
   -- whole blocks further
-  onward : (room : ℕ) (o : List Open) (at to : ℕ) → Opened words R room o at → Whole words R room (in-loop o) at to → Opened words R room o to
+  onward : (room : ℕ) (o : List Open) (at to : ℕ) → Opened words by room o at → Whole words by room (in-loop o) at to → Opened words by room o to
   unfolding in-loop
   onward room o at to (outside w) v = outside (append nesting false 0 at to w v)
   onward room (open-at before p ∷ o) at to (in-first _ x h w) v = in-first p x h (append room (in-loop o) (p + 1) at to w v)
@@ -116,30 +117,30 @@ module _ (words : List ℕ) (R : ℕ) where
   onward room (open-at looping p ∷ o) at to (in-body _ x h w) v = in-body p x h (append room true (p + 1) at to w v)
 
   -- a block that closes is one whole block more
-  shut-first : (room p : ℕ) (o : List Open) (at : ℕ) → Opened words R room (open-at before p ∷ o) at → Has words R at Item.Endif
-      → Opened words R (suc room) o (at + 1)
+  shut-first : (room p : ℕ) (o : List Open) (at : ℕ) → Opened words by room (open-at before p ∷ o) at → Has words by at Item.Endif
+      → Opened words by (suc room) o (at + 1)
   shut-first room p o at (in-first _ x h w) f = onward (suc room) o p (at + 1) x (choice at h w f nothing)
 
-  shut-second : (room p : ℕ) (o : List Open) (at : ℕ) → Opened words R room (open-at after p ∷ o) at → Has words R at Item.Endif
-      → Opened words R (suc room) o (at + 1)
+  shut-second : (room p : ℕ) (o : List Open) (at : ℕ) → Opened words by room (open-at after p ∷ o) at → Has words by at Item.Endif
+      → Opened words by (suc room) o (at + 1)
   shut-second room p o at (in-second _ other (in-first _ x h w) g v) f = onward (suc room) o p (at + 1) x (choice-of-two other at h w g v f nothing)
 
-  shut-body : (room p : ℕ) (o : List Open) (at : ℕ) → Opened words R room (open-at looping p ∷ o) at → Has words R at Item.Endloop
-      → Opened words R (suc room) o (at + 1)
+  shut-body : (room p : ℕ) (o : List Open) (at : ℕ) → Opened words by room (open-at looping p ∷ o) at → Has words by at Item.Endloop
+      → Opened words by (suc room) o (at + 1)
   shut-body room p o at (in-body _ x h w) f = onward (suc room) o p (at + 1) x (loop at h w f nothing)
 
   -- where the pass goes on, these are the open blocks
   abbrev pub Led : Next → Type 0
   Led (over v) = Unit {0}
-  Led (go a q) = (room : ℕ) × Opened words R room q a
+  Led (go a q) = (room : ℕ) × Opened words by room q a
 
   led-in : (part : Part) (at room : ℕ) (o : List Open) → length o + room ≡ nesting
-      → ((inner : ℕ) → room ≡ suc inner → Opened words R inner (open-at part at ∷ o) (at + 1))
+      → ((inner : ℕ) → room ≡ suc inner → Opened words by inner (open-at part at ∷ o) (at + 1))
       → Led (cond (ltb (length o) nesting) (go (at + 1) (open-at part at ∷ o)) (over (Refused (broken Rule.depth at))))
   led-in part at zero o l f = rw (le-ltb (length o) nesting (omega arith)) tt
   led-in part at (suc room) o l f = rw (lt-ltb (length o) nesting (omega arith)) (room, f room refl)
 
-  led-jump : (at room : ℕ) (o : List Open) → Has words R at Item.Jump → Opened words R room o at → (b : Bool) → in-loop o ≡ b
+  led-jump : (at room : ℕ) (o : List Open) → Has words by at Item.Jump → Opened words by room o at → (b : Bool) → in-loop o ≡ b
       → Led (cond b (go (at + 1) o) (stray at))
   led-jump at room o h x true e = (room, onward room o at (at + 1) x (rw e (jump h nothing)))
   led-jump at room o h x false e = tt
@@ -148,62 +149,62 @@ module _ (words : List ℕ) (R : ℕ) where
   abbrev Seen : ℕ → Item → Type 0
   Seen at i = (at < code .size) × (code .item at ≡ i)
 
-  led : (i : Item) (at room : ℕ) (o : List Open) → Seen at i → Opened words R room o at → Led (react i at o)
+  led : (i : Item) (at room : ℕ) (o : List Open) → Seen at i → Opened words by room o at → Led (react i at o)
   unfolding react
-  led (Item.Plain w) at room o h x = (room, onward room o at (at + w) x (plain w (has words R at (h .0) (Item.Plain w) tt (h .1)) nothing))
+  led (Item.Plain w) at room o h x = (room, onward room o at (at + w) x (plain w (has words by at (h .0) (Item.Plain w) tt (h .1)) nothing))
   led Item.If at room o h x =
-      led-in before at room o (opened-room words R room o at x)
-      (λ inner e. in-first at (rw e at x) (has words R at (h .0) Item.If tt (h .1)) nothing)
+      led-in before at room o (opened-room words by room o at x)
+      (λ inner e. in-first at (rw e at x) (has words by at (h .0) Item.If tt (h .1)) nothing)
   led Item.Else at room [] h x = tt
-  led Item.Else at room (open-at before p ∷ o) h x = (room, in-second p at x (has words R at (h .0) Item.Else tt (h .1)) nothing)
+  led Item.Else at room (open-at before p ∷ o) h x = (room, in-second p at x (has words by at (h .0) Item.Else tt (h .1)) nothing)
   led Item.Else at room (open-at after p ∷ o) h x = tt
   led Item.Else at room (open-at looping p ∷ o) h x = tt
   led Item.Endif at room [] h x = tt
-  led Item.Endif at room (open-at before p ∷ o) h x = (suc room, shut-first room p o at x (has words R at (h .0) Item.Endif tt (h .1)))
-  led Item.Endif at room (open-at after p ∷ o) h x = (suc room, shut-second room p o at x (has words R at (h .0) Item.Endif tt (h .1)))
+  led Item.Endif at room (open-at before p ∷ o) h x = (suc room, shut-first room p o at x (has words by at (h .0) Item.Endif tt (h .1)))
+  led Item.Endif at room (open-at after p ∷ o) h x = (suc room, shut-second room p o at x (has words by at (h .0) Item.Endif tt (h .1)))
   led Item.Endif at room (open-at looping p ∷ o) h x = tt
   led Item.Loop at room o h x =
-      led-in looping at room o (opened-room words R room o at x)
-      (λ inner e. in-body at (rw e at x) (has words R at (h .0) Item.Loop tt (h .1)) nothing)
-  led Item.Jump at room o h x = led-jump at room o (has words R at (h .0) Item.Jump tt (h .1)) x (in-loop o) refl
+      led-in looping at room o (opened-room words by room o at x)
+      (λ inner e. in-body at (rw e at x) (has words by at (h .0) Item.Loop tt (h .1)) nothing)
+  led Item.Jump at room o h x = led-jump at room o (has words by at (h .0) Item.Jump tt (h .1)) x (in-loop o) refl
   led Item.Endloop at room [] h x = tt
   led Item.Endloop at room (open-at before p ∷ o) h x = tt
   led Item.Endloop at room (open-at after p ∷ o) h x = tt
-  led Item.Endloop at room (open-at looping p ∷ o) h x = (suc room, shut-body room p o at x (has words R at (h .0) Item.Endloop tt (h .1)))
+  led Item.Endloop at room (open-at looping p ∷ o) h x = (suc room, shut-body room p o at x (has words by at (h .0) Item.Endloop tt (h .1)))
   led (Item.Bad r) at room o h x = tt
 
-  pub led-step : (at : ℕ) (o : List Open) → ((room : ℕ) × Opened words R room o at) → Led (step code at o)
+  pub led-step : (at : ℕ) (o : List Open) → ((room : ℕ) × Opened words by room o at) → Led (step code at o)
   led-step at o x =
       dite (decLt at (code .size))
       (λ h. rw (step-in code at o h) (led (code .item at) at (x .0) o (h, refl) (x .1)))
       (λ h. rw (step-past code at o (omega arith)) tt)
 
-module _ (words : List ℕ) (R : ℕ) where
+module _ (words : List ℕ) (by : Reading) where
   -- the code's instructions have their words in it
   abbrev kernel : Code
-  kernel = codeOf words R
+  kernel = codeOf words by
 
   fits : Fits kernel
-  fits = code-fits words R
+  fits = code-fits words by
 
   -- THE OPEN BLOCKS at a place are those that the code has open there
-  pub opened-if : (at : ℕ) (o : List Open) → (openAt kernel at ≡ there o) ↔ ((room : ℕ) × Opened words R room o at)
+  pub opened-if : (at : ℕ) (o : List Open) → (openAt kernel at ≡ there o) ↔ ((room : ℕ) × Opened words by room o at)
   opened-if at o = (
-    λ e. along kernel (λ a q. (room : ℕ) × Opened words R room q a) (λ at o a q x f. rw f at (led-step words R at o x)) (nesting, outside nothing) at o e,
-    λ x. at-opened words R (λ a q. openAt kernel a ≡ there q) (going-on kernel fits) (open-at-start kernel fits) (x .0) o at (x .1) .1,
+    λ e. along kernel (λ a q. (room : ℕ) × Opened words by room q a) (λ at o a q x f. rw f at (led-step words by at o x)) (nesting, outside nothing) at o e,
+    λ x. at-opened words by (λ a q. openAt kernel a ≡ there q) (going-on kernel fits) (open-at-start kernel fits) (x .0) o at (x .1) .1,
   )
 
   -- and the pass comes there with them
-  pub opened-run : (room : ℕ) (o : List Open) (at : ℕ) → Opened words R room o at → checkOf kernel ≡ run kernel at o
+  pub opened-run : (room : ℕ) (o : List Open) (at : ℕ) → Opened words by room o at → checkOf kernel ≡ run kernel at o
   opened-run room o at x =
-      at-opened words R (λ a q. checkOf kernel ≡ run kernel a q) (λ at o a q p f. p ∙ run-step kernel fits at o ∙ ap (carry (λ v. v) (run kernel)) f) refl
+      at-opened words by (λ a q. checkOf kernel ≡ run kernel a q) (λ at o a q p f. p ∙ run-step kernel fits at o ∙ ap (carry (λ v. v) (run kernel)) f) refl
       room o at x .1
 
-  whole-outside : (room : ℕ) → Opened words R room [] (kernel .size) → Nested words R
+  whole-outside : (room : ℕ) → Opened words by room [] (kernel .size) → Nested words by
   whole-outside room (outside w) = w
 
   -- CODE PASSES exactly if its blocks nest
-  pub passes-if : (checkOf kernel ≡ Fine) ↔ Nested words R
+  pub passes-if : (checkOf kernel ≡ Fine) ↔ Nested words by
   unfolding ended
   passes-if = (
     λ e. let x = opened-if (kernel .size) [] .0 (none-at-the-end kernel fits e) in whole-outside (x .0) (x .1),

@@ -18,6 +18,7 @@ use Rattle.instructions.specs.Registers.{registersBelow}
 use Rattle.words.proofs.Sizes.{words-length, size-positive}
 use Rattle.words.proofs.Standing.{stood}
 use Rattle.blocks.specs.declared.item.Item.{Item}
+use Rattle.blocks.specs.declared.item.Reading.{Reading}
 use Rattle.blocks.specs.Item.{itemBy, itemOf, seen, itemAt}
 use Rattle.blocks.specs.Code.{Code, codeOf}
 
@@ -63,14 +64,14 @@ cond-ok : (at size : ℕ) (b : Bool) (x y : Item) → Ok at size x → Ok at siz
 cond-ok at size true x y p q = p
 cond-ok at size false x y p q = q
 
-seen-ok : (words : List ℕ) (registers at : ℕ) (a : ReadAnswer) → readAt words at ≡ a → Ok at (length words) (seen registers at a)
-seen-ok words registers at (ReadAnswer.Read i n) e =
+seen-ok : (words : List ℕ) (by : Reading) (at : ℕ) (a : ReadAnswer) → readAt words at ≡ a → Ok at (length words) (seen by at a)
+seen-ok words by at (ReadAnswer.Read i n) e =
     let w = read-wide words at i n e in
     let some = size-positive (limitsOf (i .op) .second) in
-    cond-ok at (length words) (registersBelow registers i) (itemOf (i .op) n) (Item.Bad (broken Rule.register at))
+    cond-ok at (length words) (registersBelow (by .registers) i) (itemOf (i .op) n) (Item.Bad (broken Rule.register at))
     (item-ok at (length words) n (controlIn (i .op)) (omega (arith, w .0, some)) (w .1)) tt
-seen-ok words registers at (ReadAnswer.Refused r) e = tt
+seen-ok words by at (ReadAnswer.Refused r) e = tt
 
-pub code-fits : (words : List ℕ) (registers : ℕ) → Fits (codeOf words registers)
+pub code-fits : (words : List ℕ) (by : Reading) → Fits (codeOf words by)
 unfolding itemAt
-code-fits words registers at h = seen-ok words registers at (readAt words at) refl
+code-fits words by at h = seen-ok words by at (readAt words at) refl

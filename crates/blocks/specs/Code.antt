@@ -4,6 +4,7 @@ use Prim.Native.Nat.{ℕ}
 use mathlib.Core.List.{List}
 use lib.ListN.{length}
 use Rattle.blocks.specs.declared.item.Item.{Item}
+use Rattle.blocks.specs.declared.item.Reading.{Reading}
 use Rattle.blocks.specs.Item.{itemAt}
 
 -- what stands at each place, and the number of words
@@ -11,6 +12,6 @@ pub record Code : Type 0 where
   pub item : ℕ → Item
   pub size : ℕ
 
--- these words, for a number of registers
-abbrev pub codeOf : List ℕ → ℕ → Code
-codeOf words registers = record { item = itemAt words registers; size = length words }
+-- these words, and what they are checked for
+abbrev pub codeOf : List ℕ → Reading → Code
+codeOf words by = record { item = itemAt words by; size = length words }

@@ -11,6 +11,7 @@ use Rattle.words.specs.Fetching.{controlIn}
 use Rattle.words.specs.Reading.{readAt}
 use Rattle.instructions.specs.Registers.{registersBelow}
 use Rattle.blocks.specs.declared.item.Item.{Item}
+use Rattle.blocks.specs.declared.item.Reading.{Reading}
 
 -- a control instruction, which is one word; HALT, BARRIER and NOP have no part in blocks
 abbrev pub controlItem : ControlOp → Item
@@ -33,12 +34,12 @@ itemBy ControlIn.Other width = Item.Plain width
 abbrev pub itemOf : Op → ℕ → Item
 itemOf op width = itemBy (controlIn op) width
 
--- what was read at a place, for a number of registers: refusals 4 to 6 as they are, then 7
-abbrev pub seen : ℕ → ℕ → ReadAnswer → Item
-seen registers at (ReadAnswer.Read instr width) =
-    cond (registersBelow registers instr) (itemOf (instr .op) width) (Item.Bad (broken Rule.register at))
-seen registers at (ReadAnswer.Refused r) = Item.Bad r
+-- what was read at a place, checked for registers below R: refusals 4 to 6 as they are, then 7
+abbrev pub seen : Reading → ℕ → ReadAnswer → Item
+seen by at (ReadAnswer.Read instr width) =
+    cond (registersBelow (by .registers) instr) (itemOf (instr .op) width) (Item.Bad (broken Rule.register at))
+seen by at (ReadAnswer.Refused r) = Item.Bad r
 
 -- what stands at a place of the code
-unfoldable pub itemAt : List ℕ → ℕ → ℕ → Item
-itemAt code registers at = seen registers at (readAt code at)
+unfoldable pub itemAt : List ℕ → Reading → ℕ → Item
+itemAt code by at = seen by at (readAt code at)

@@ -21,6 +21,11 @@ pub enum Item {
     Bad(Refusal),
 }
 
+// What code is checked for: register numbers below R.
+pub struct Reading {
+    pub registers: u32,
+}
+
 // What a control instruction is to the blocks.
 fn control_item(op: ControlOp) -> Item
     ensures { λ r. ⌜ r ≡ controlItem op ⌝ }
@@ -50,10 +55,11 @@ fn item_of(op: Op, width: usize) -> Item
     }
 }
 
-// What stands at a place of the code, for a number of registers: refusals 4 to 6 as reading gives them (5 past the end), then 7.
-pub fn look(code: &[u32], registers: u32, at: usize) -> Item
-    ensures { λ r. ⌜ r ≡ itemAt (now (code .entry)) registers at ⌝ }
+// What stands at a place of the code: refusals 4 to 6 as reading gives them (5 past the end), then 7.
+pub fn look(code: &[u32], reading: Reading, at: usize) -> Item
+    ensures { λ r. ⌜ r ≡ itemAt (now (code .entry)) reading at ⌝ }
 {
+    let registers = reading.registers;
     let answer = words::reading::read_at(code, at);
     match answer {
         ReadAnswer::Read { instr, words } => {

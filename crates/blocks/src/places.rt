@@ -1,5 +1,6 @@
 // The blocks that are open at a place of the code.
 use crate::item;
+use crate::item::Reading;
 use crate::rules;
 use crate::rules::Inside;
 use crate::rules::Turn;
@@ -146,9 +147,9 @@ pub struct Moved {
 }
 
 // One instruction of the pass.
-fn advance(code: &[u32], registers: u32, at: usize, s: Stack) -> Moved
+fn advance(code: &[u32], reading: Reading, at: usize, s: Stack) -> Moved
     requires { ⌜ ((o : List Open) × Holds s o) ⌝ }
-    ensures { λ r. ⌜ ((o : List Open) → Holds s o → Advances (step (codeOf (now (code .entry)) registers) at o) r) ⌝ }
+    ensures { λ r. ⌜ ((o : List Open) → Holds s o → Advances (step (codeOf (now (code .entry)) reading) at o) r) ⌝ }
 {
     if code.len() <= at {
         return Moved {
@@ -157,7 +158,7 @@ fn advance(code: &[u32], registers: u32, at: usize, s: Stack) -> Moved
             stack: s,
         };
     }
-    let item = item::look(code, registers, at);
+    let item = item::look(code, reading, at);
     let part = inner(s);
     let loops = s.loops;
     let depth = s.depth;
@@ -208,13 +209,13 @@ fn not_found() -> OpenAt
 }
 
 // The blocks open at a place, in time linear in the code. An instruction's second word is no place, nor is one behind a refusal.
-pub fn open_at(code: &[u32], registers: u32, place: usize) -> OpenAt
-    ensures { λ r. ⌜ r ≡ shown (openAt (codeOf (now (code .entry)) registers) place) ⌝ }
+pub fn open_at(code: &[u32], reading: Reading, place: usize) -> OpenAt
+    ensures { λ r. ⌜ r ≡ shown (openAt (codeOf (now (code .entry)) reading) place) ⌝ }
 {
     let mut s = empty();
     let mut at: usize = 0;
     while at < place {
-        let moved = advance(code, registers, at, s);
+        let moved = advance(code, reading, at, s);
         let on = moved.on;
         if on {
             let after = moved.stack;

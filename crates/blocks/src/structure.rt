@@ -1,5 +1,6 @@
 // The check of a kernel's code: refusals 4 to 10. The instructions of a level are gone through in order; an inner block is a level of its own.
 use crate::item;
+use crate::item::Reading;
 use crate::rules;
 use crate::rules::Inside;
 use crate::rules::Turn;
@@ -31,19 +32,19 @@ pub enum Checked {
 // One level, from a place on, where so much room is left. A block opened in it is checked by a call of this function, with one less of room.
 fn level(
     code: &[u32],
-    registers: u32,
+    reading: Reading,
     from: usize,
     room: usize,
     inside: Inside,
     in_loop: bool,
 ) -> LevelEnd
     requires { ⌜ from ≤ length (now code) ⌝ }
-    ensures { λ r. ⌜ LevelSays (codeOf (now (code .entry)) registers) from room inside in_loop r ⌝ }
+    ensures { λ r. ⌜ LevelSays (codeOf (now (code .entry)) reading) from room inside in_loop r ⌝ }
 {
     let mut at = from;
     let mut part = inside;
     while at < code.len() {
-        let item = item::look(code, registers, at);
+        let item = item::look(code, reading, at);
         let turn = rules::judge(item, at, room, part, in_loop);
         match turn {
             Turn::Go(width, next) => {
@@ -58,7 +59,7 @@ fn level(
                 return LevelEnd::Refused(refusal);
             }
             Turn::Enter(inner, looped) => {
-                let end = level(code, registers, at + 1, room - 1, inner, looped);
+                let end = level(code, reading, at + 1, room - 1, inner, looped);
                 match end {
                     LevelEnd::Closed(next) => {
                         at = next;
@@ -79,12 +80,12 @@ fn level(
     LevelEnd::Ended
 }
 
-// Whether code is well built for a number of registers: refusals 4 to 9 instruction by instruction, then 10; the first broken rule in reading order.
+// Whether code is well built: refusals 4 to 9 instruction by instruction, then 10; the first broken rule in reading order.
 // The whole code is a level outside every block, which nothing closes.
-pub fn check(code: &[u32], registers: u32) -> Checked
-    ensures { λ r. ⌜ r ≡ checkOf (codeOf (now (code .entry)) registers) ⌝ }
+pub fn check(code: &[u32], reading: Reading) -> Checked
+    ensures { λ r. ⌜ r ≡ checkOf (codeOf (now (code .entry)) reading) ⌝ }
 {
-    let end = level(code, registers, 0, NESTING, Inside::Nothing, false);
+    let end = level(code, reading, 0, NESTING, Inside::Nothing, false);
     match end {
         LevelEnd::Closed(_) => Checked::Fine,
         LevelEnd::Refused(refusal) => Checked::Refused(refusal),

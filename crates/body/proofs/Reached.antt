@@ -6,14 +6,13 @@ use mathlib.Core.Bool.{true}
 use native.Mathlib.Omega.{arith}
 use lib.ListN.{length, replicate}
 use Rattle.ground.specs.Tests.{sameList, oneOf, allOf}
-use Rattle.numbers.specs.Numbers.{bytesOf, bytesOfAll, numberAt}
-use Rattle.body.specs.Body.{Parts, twoOf, sixOf, numbersOf, bytesOfBody}
-use Rattle.body.specs.Layout.{shortest, longest, kindLists, apart, faultsFit, blockFits, fitsLayout, startsBody, isBody}
-use Rattle.body.specs.Layout.{each, faultAt, blockAt, countAt, headSize, depthAt, sizeAt, partsAt}
+use Rattle.formats.specs.Format.{bytesIn, valueIn, number, both, readTimes, sizeTimes, counted, seenAs}
+use Rattle.body.specs.Body.{Parts, faultFormat, blockFormat, bodyFormat, setBytes, bytesOfBody}
+use Rattle.body.specs.Layout.{shortest, longest, kindLists, apart, faultsFit, blockFits, ofLayout, starts, isWhole, isBody}
 use Rattle.body.proofs.Starts.{body-starts, starts-long}
 
 pub body-long : (b : List ℕ) → isBody b ≡ true → (shortest ≤ length b) × (length b ≤ longest)
-body-long b e = let s = body-starts b e in let l = starts-long b (s .0) in let n = s .1 in (omega arith, omega arith)
+body-long b e = let s = body-starts kindLists setBytes b e in let l = starts-long b (s .0) in let n = s .1 in (omega arith, omega arith)
 
 -- one kind, no block
 abbrev unblocked : Parts
@@ -32,11 +31,11 @@ loops =
     }
 
 pub shortest-reached : (isBody (bytesOfBody unblocked) ≡ true) × (length (bytesOfBody unblocked) ≡ shortest)
-unfolding isBody startsBody fitsLayout partsAt each faultAt blockAt faultsFit oneOf sameList kindLists apart allOf blockFits
-    sizeAt headSize depthAt countAt numberAt bytesOfBody numbersOf twoOf sixOf bytesOfAll flatMap bytesOf
+unfolding isWhole starts ofLayout faultsFit oneOf sameList kindLists apart allOf blockFits
+    bodyFormat faultFormat blockFormat seenAs both number counted readTimes sizeTimes bytesIn valueIn flatMap
 shortest-reached = (refl, refl)
 
 pub longest-reached : (isBody (bytesOfBody loops) ≡ true) × (length (bytesOfBody loops) ≡ longest)
-unfolding isBody startsBody fitsLayout partsAt each faultAt blockAt faultsFit oneOf sameList kindLists apart allOf blockFits
-    sizeAt headSize depthAt countAt numberAt bytesOfBody numbersOf twoOf sixOf bytesOfAll flatMap bytesOf
+unfolding isWhole starts ofLayout faultsFit oneOf sameList kindLists apart allOf blockFits
+    bodyFormat faultFormat blockFormat seenAs both number counted readTimes sizeTimes bytesIn valueIn flatMap
 longest-reached = (refl, refl)

@@ -1,32 +1,43 @@
-// The layout of a key's body: which bytes are one, and how long it is.
+// The layout of a key's body: which bytes are one, how long it is, and what it says.
+pub mod fields;
+
+use fields::BLOCK_BYTES;
+use fields::FAULT_BYTES;
+use fields::HEAD_BYTES;
+use fields::count;
+use fields::depth;
+use fields::fault;
+use fields::place;
+use lanes::Lanes;
+use lanes::said::Fault;
 use numbers::get;
 ghost use mathlib.Core.Path.{_≡_};
 ghost use Prim.Native.Nat.{_+_, _*_, _≤_};
-ghost use mathlib.Core.List.{[], _∷_};
 ghost use lib.ListN.{length};
-ghost use Rattle.ground.specs.Tests.{oneOf, allOf};
-ghost use Rattle.body.specs.Body.{Parts};
-ghost use Rattle.body.specs.Layout.{blockBytes, kindLists, faultsFit, blockFits, blockAt, each, partsAt, bodyAnswer};
+ghost use Rattle.ground.specs.Tests.{allOf};
+ghost use Rattle.formats.specs.Places.{each};
+ghost use Rattle.body.specs.Body.{Parts, setBytes, partsAt};
+ghost use Rattle.body.specs.Layout.{blockBytes, kindLists, faultsFit, blockFits, bodyAnswer};
+ghost use Rattle.body.specs.Places.{blockAt};
+ghost use Rattle.body.specs.Spelling.{spells, mayPrecede};
 
 const LAST_PLACE: u32 = 65535;
 
-const MOST_DEPTH: usize = 32;
+pub const MOST_DEPTH: usize = 32;
+
+const MOST_KINDS: usize = 2;
 
 const BEFORE_PART: u32 = 1;
 
 const LOOP_PART: u32 = 3;
 
+// The length of the longest body.
+pub const LONGEST: usize = HEAD_BYTES + FAULT_BYTES * MOST_KINDS + BLOCK_BYTES * MOST_DEPTH;
+
 // The refusals of an output that is shorter than the result, and of what isn't of the layout.
 pub const SHORT: u32 = 13;
 
 pub const NOT_OF_LAYOUT: u32 = 14;
-
-// The bytes of a fault kind with its lanes, of a block, and of the six numbers beside them.
-const FAULT_BYTES: usize = 8;
-
-const BLOCK_BYTES: usize = 24;
-
-const HEAD_BYTES: usize = 24;
 
 // The length of a body, or the refusal's number and place.
 pub enum BodyAnswer {
@@ -34,42 +45,53 @@ pub enum BodyAnswer {
     Refused(u32, usize),
 }
 
-// Whether a fault may have this kind alone.
-fn one_kind(k: u32) -> bool
-    ensures { λ r. ⌜ r ≡ oneOf (k ∷ []) kindLists ⌝ }
+// Whether a fault may have these kinds: a hexadecimal digit each, the last kind first.
+fn in_table(kinds: u32) -> bool
+    ensures { λ r. ⌜ r ≡ spells kindLists kinds ⌝ }
 {
-    (k == 1) | (k == 2) | (k == 3) | (k == 4) | (k == 5)
+    (kinds == 0x1)
+        | (kinds == 0x2)
+        | (kinds == 0x3)
+        | (kinds == 0x4)
+        | (kinds == 0x5)
+        | (kinds == 0x21)
+        | (kinds == 0x31)
 }
 
-// Whether a fault may have these two kinds, in this order.
-fn two_kinds(k: u32, l: u32) -> bool
-    ensures { λ r. ⌜ r ≡ oneOf (k ∷ l ∷ []) kindLists ⌝ }
+// Whether a fault kind has lanes, none of them among those `seen`, and is a digit.
+fn may_precede(f: Fault, seen: Lanes) -> bool
+    ensures { λ r. ⌜ r ≡ mayPrecede f seen ⌝ }
 {
-    (k == 1) & ((l == 2) | (l == 3))
+    let common = f.lanes & seen;
+    (0 < f.kind) & (f.kind < 16) & (f.lanes != 0) & (common == 0)
 }
 
 // Whether the fault kinds of the body that `bytes` start with, and their lane sets, are of the layout.
 fn faults_fit(bytes: &[u8]) -> bool
-    ensures { λ r. ⌜ r ≡ faultsFit (partsAt (now (bytes .entry)) .faults) ⌝ }
+    ensures { λ r. ⌜ r ≡ faultsFit kindLists (partsAt (now (bytes .entry)) .faults) ⌝ }
 {
-    let count = get(bytes, 8);
-    let k = get(bytes, 12);
-    let a = get(bytes, 16);
-    if count == 1 {
-        return one_kind(k) & (a != 0);
-    }
-    if count != 2 {
+    let mut left = count(bytes) as usize;
+    if MOST_KINDS < left {
         return false;
     }
-    let l = get(bytes, 20);
-    let b = get(bytes, 24);
-    two_kinds(k, l) & (a != 0) & (a & b == 0) & (b != 0)
+    let mut kinds: u32 = 0;
+    let mut seen: Lanes = 0;
+    while 0 < left {
+        let f = fault(bytes, left - 1);
+        if !may_precede(f, seen) {
+            return false;
+        }
+        kinds = 16 * kinds + f.kind;
+        seen = f.lanes | seen;
+        left -= 1;
+    }
+    in_table(kinds)
 }
 
 // Whether the block at `p` is of the layout.
 fn block_fits(bytes: &[u8], p: usize) -> bool
-    requires { ⌜ p + blockBytes ≤ length (now bytes) ⌝ }
-    ensures { λ r. ⌜ r ≡ blockFits (blockAt (now (bytes .entry)) p) ⌝ }
+    requires { ⌜ p + blockBytes setBytes ≤ length (now bytes) ⌝ }
+    ensures { λ r. ⌜ r ≡ blockFits (blockAt setBytes (now (bytes .entry)) p) ⌝ }
 {
     let part = get(bytes, p);
     let opener = get(bytes, p + 4);
@@ -82,8 +104,8 @@ fn block_fits(bytes: &[u8], p: usize) -> bool
 
 // Whether the blocks from `p` on, `depth` of them, are of the layout.
 fn blocks_fit(bytes: &[u8], p: usize, depth: usize) -> bool
-    requires { ⌜ p + blockBytes * depth ≤ length (now bytes) ⌝ }
-    ensures { λ r. ⌜ r ≡ allOf blockFits (each (blockAt (now (bytes .entry))) blockBytes p depth) ⌝ }
+    requires { ⌜ p + blockBytes setBytes * depth ≤ length (now bytes) ⌝ }
+    ensures { λ r. ⌜ r ≡ allOf blockFits (each (blockAt setBytes (now (bytes .entry))) (blockBytes setBytes) p depth) ⌝ }
 {
     let mut at = p;
     let mut left = depth;
@@ -105,17 +127,17 @@ pub fn body_length(bytes: &[u8], at: usize) -> BodyAnswer
         return BodyAnswer::Refused(NOT_OF_LAYOUT, at);
     }
     let body = &bytes[at..];
-    let head = HEAD_BYTES + FAULT_BYTES * (get(body, 8) as usize);
-    let depth = get(body, head - 4) as usize;
-    let size = head + BLOCK_BYTES * depth;
+    let head = HEAD_BYTES + FAULT_BYTES * (count(body) as usize);
+    let blocks = depth(body) as usize;
+    let size = head + BLOCK_BYTES * blocks;
     let fits = faults_fit(body)
-        & (get(body, 4) <= LAST_PLACE)
-        & (depth <= MOST_DEPTH)
+        & (place(body) <= LAST_PLACE)
+        & (blocks <= MOST_DEPTH)
         & (size <= body.len());
     if !fits {
         return BodyAnswer::Refused(NOT_OF_LAYOUT, at);
     }
-    if !blocks_fit(body, head, depth) {
+    if !blocks_fit(body, head, blocks) {
         return BodyAnswer::Refused(NOT_OF_LAYOUT, at);
     }
     BodyAnswer::Length(size)

@@ -1,5 +1,6 @@
 -- An instruction by the class of its operation: the one definition of what it does, as each of the code's arms does it.
 use mathlib.Core.Path.{_≡_, refl, ap, ap₂, _∙_}
+use mathlib.Core.Bool.{Bool, true, false}
 use mathlib.Core.List.{List}
 use Prim.Native.Nat.{ℕ, _≤_, _<_}
 use lib.ListN.{length, getD}
@@ -7,14 +8,13 @@ use Rattle.lanes.specs.Sets.{widest}
 use Rattle.instructions.specs.declared.instr.TwoOp.{TwoOp}
 use Rattle.instructions.specs.declared.instr.OneOp.{OneOp}
 use Rattle.instructions.specs.declared.instr.CompareOp.{CompareOp}
-use Rattle.instructions.specs.declared.instr.AtomicOp.{AtomicOp}
 use Rattle.instructions.specs.declared.instr.ControlOp.{ControlOp}
 use Rattle.instructions.specs.declared.instr.Space.{Space}
 use Rattle.instructions.specs.declared.instr.Op.{Op}
 use Rattle.instructions.specs.declared.instr.Instr.{Instr}
 use Rattle.arith.specs.Arith.{addressOf, wordOf}
 use Rattle.faulting.specs.declared.faults.Faults.{Faults}
-use Rattle.faulting.specs.Kinds.{noFaults}
+use Rattle.faulting.specs.Kinds.{noFaults, clear}
 use Rattle.faulting.specs.Causes.{addressFault, kindsOf, addressFaults}
 use Rattle.faulting.proofs.FaultKinds.{kinds-same, no-kinds}
 use Rattle.compute.specs.declared.Shape.{Shape}
@@ -24,10 +24,11 @@ use Rattle.compute.specs.Memory.{Memories, memories, memoryOf, changesOf
 use Rattle.compute.specs.Operands.{Lent, lent, operandsOf}
 use Rattle.compute.specs.Values.{specialOf, resultsOf, predicateOf, changed}
 use Rattle.compute.specs.Carrying.{Outcome, outcome, faultsOf, afterOf, unlessFault, havingRead}
-use Rattle.compute.specs.Lanewise.{twoLanes, compareLanes, oneLanes, loadLanes, changeTo}
-use Rattle.compute.specs.Classes.{Settled, dividingFaults, Writes, Computes, reached, Loads, storesOf, StoresIn, Changes}
+use Rattle.compute.specs.Lanewise.{twoLanes, compareLanes, oneLanes, loadLanes, opBy, desiredBy, changeTo}
+use Rattle.compute.specs.Classes.{Ready, Settled, dividingFaults, reached, reachFaults, Loads, storesOf, Stores}
 use Rattle.compute.proofs.Lanewise.{getD-by-lane, by-lane-same}
-use Rattle.compute.proofs.Settling.{settled-as, settled-within, settled-both}
+use Rattle.compute.proofs.Settling.{settled-as, settled-within, settled-changed, settled-same}
+use Rattle.compute.proofs.Standing.{narrow}
 
 settled-outcome : {faults answer : Faults} {changed before after : Lent} → Settled faults changed answer before after
     → outcome answer after ≡ unlessFault faults before changed
@@ -51,7 +52,7 @@ module _ (shape : Shape) (x : Instr) (t p : ℕ) (regs device local : List ℕ) 
   write results = writeLanes shape regs (x .rd) t results
 
   abbrev at : List ℕ
-  at = reached shape regs (x .rs1) (x .number)
+  at = reached shape x regs
 
   abbrev done : Outcome
   done = havingRead shape x t (operandsOf shape x regs) before
@@ -93,7 +94,7 @@ module _ (shape : Shape) (x : Instr) (t p : ℕ) (regs device local : List ℕ) 
   address-is n i b = getD-by-lane W _ i b n
 
   as-load : (s : Space) → x .op ≡ Op.Load s → W ≤ widest
-      → unlessFault (addressFaults s W at (length (memoryOf s both)) t) before (left (write (loadLanes W at (memoryOf s both))) both) ≡ done
+      → unlessFault (reachFaults s shape x t regs (memoryOf s both)) before (left (write (loadLanes W at (memoryOf s both))) both) ≡ done
   unfolding faultsOf afterOf resultsOf loadLanes
   as-load s e n =
       rw e
@@ -102,12 +103,11 @@ module _ (shape : Shape) (x : Instr) (t p : ℕ) (regs device local : List ℕ) 
       (by-lane-same W _ _ (λ i b. ap (λ (a : ℕ). getD (memoryOf s both) (wordOf a) 0) (address-is n i b))))
 
   as-store : (s : Space) → x .op ≡ Op.Store s → W ≤ widest
-      → unlessFault (addressFaults s W at (length (memoryOf s both)) t) before
-      (left regs (changed s (storesOf shape t (x .rd) (x .rs1) (x .number) regs) both)) ≡ done
+      → unlessFault (reachFaults s shape x t regs (memoryOf s both)) before (left regs (changed s (storesOf shape x t regs) both)) ≡ done
   unfolding faultsOf afterOf resultsOf
   as-store s e n =
       rw e
-      (ap (λ (f : Faults). unlessFault f before (left regs (changed s (storesOf shape t (x .rd) (x .rs1) (x .number) regs) both)))
+      (ap (λ (f : Faults). unlessFault f before (left regs (changed s (storesOf shape x t regs) both)))
       (kinds-same W t _ _ (λ i b. ap (addressFault s (length (memoryOf s both))) (address-is n i b))))
 
   -- an atomic: its addresses, and what it leaves
@@ -117,72 +117,84 @@ module _ (shape : Shape) (x : Instr) (t p : ℕ) (regs device local : List ℕ) 
   abbrev changes : (ℕ → ℕ → ℕ) → Lent
   changes f = left (write (byLane W (oldOf bases f t device))) (memories (changesOf W bases f t device) local)
 
-  as-atomic : (o : AtomicOp) → x .op ≡ Op.Atomic o
+  as-change : (change : Change) → x .op ≡ opBy change
       → unlessFault (addressFaults Space.Device W bases (length device) t) before
-      (changes (changeTo (Change.Atomic o) shape regs (x .rs2) (x .rs2))) ≡ done
+      (changes (changeTo change shape regs (x .rs2) (desiredBy change x))) ≡ done
   unfolding faultsOf afterOf resultsOf
-  as-atomic o e = rw e refl
+  as-change (Change.Atomic o) e = rw e refl
+  as-change Change.Swap e = rw e refl
 
-  as-swap : x .op ≡ Op.Cas
-      → unlessFault (addressFaults Space.Device W bases (length device) t) before (changes (changeTo Change.Swap shape regs (x .rs2) (x .rs3))) ≡ done
-  unfolding faultsOf afterOf resultsOf
-  as-swap e = rw e refl
+  -- ---- so what an arm of the code has done is what the one definition says
 
-  -- ---- so an arm that settled what it was lent has done what the one definition says
+  -- of results and faults as the writer was handed them
+  wrote : (r f : Faults) (v after : List ℕ) (faults : Faults) (results : List ℕ) → Settled f (write v) r regs after → f ≡ faults → v ≡ results
+      → outcome r (lent p after device local) ≡ unlessFault faults before (left (write results) both)
+  wrote r f v after faults results h e g =
+      settled-outcome (settled-within (λ (l : List ℕ). left l both) (settled-as h faults (write results) e (ap write g)))
 
-  pub arm-two : (o : TwoOp) → x .op ≡ Op.Two o → (r : Faults) (after : List ℕ)
-      → Computes o shape t (x .rd) (x .rs1) (x .rs2) r regs after
-      → outcome r (lent p after device local) ≡ done
-  arm-two o e r after h = settled-outcome (settled-within (λ (l : List ℕ). left l both) h) ∙ as-two o e
+  module _ (r f : Faults) (v after : List ℕ) (h : Settled f (write v) r regs after) where
+    pub arm-two : (o : TwoOp) → Ready (Op.Two o) shape x regs → f ≡ dividingFaults o shape regs (x .rs2) t
+        → v ≡ twoLanes o shape regs (x .rs1) (x .rs2) → outcome r (lent p after device local) ≡ done
+    arm-two o y e g = wrote r f v after _ _ h e g ∙ as-two o (y .is)
+
+    pub arm-one : (o : OneOp) → Ready (Op.One o) shape x regs → f ≡ noFaults → v ≡ oneLanes o shape regs (x .rs1)
+        → outcome r (lent p after device local) ≡ done
+    arm-one o y e g = wrote r f v after noFaults _ h e g ∙ as-one o (y .is)
+
+    pub arm-special : Ready Op.Special shape x regs → f ≡ noFaults → v ≡ byLane W (specialOf (x .rs1))
+        → outcome r (lent p after device local) ≡ done
+    arm-special y e g = wrote r f v after noFaults _ h e g ∙ as-special (y .is)
+
+    pub arm-number : Ready Op.Number shape x regs → f ≡ noFaults → v ≡ byLane W (λ i. x .number) → outcome r (lent p after device local) ≡ done
+    arm-number y e g = wrote r f v after noFaults _ h e g ∙ as-number (y .is)
 
   pub arm-compare : (o : CompareOp) → x .op ≡ Op.Compare o → (r : Faults) (q : ℕ) (results : List ℕ) → r ≡ noFaults
       → results ≡ compareLanes o shape regs (x .rs1) (x .rs2) → q ≡ predicateOf W p t results → outcome r (lent q regs device local) ≡ done
   arm-compare o e r q results f v h =
       ap₂ (λ (f : Faults) (q : ℕ). outcome f (lent q regs device local)) f (h ∙ ap (predicateOf W p t) v) ∙ as-compare o e
 
-  -- results that no fault stops
-  value-left : (r : Faults) (value results after : List ℕ) → Writes shape t (x .rd) value r regs after → value ≡ results
-      → outcome r (lent p after device local) ≡ outcome noFaults (left (write results) both)
-  value-left r value results after h e =
-      settled-outcome (settled-within (λ (l : List ℕ). left l both) (settled-as h noFaults (write results) refl (ap write e)))
-
-  pub arm-one : (o : OneOp) → x .op ≡ Op.One o → (r : Faults) (value after : List ℕ) → value ≡ oneLanes o shape regs (x .rs1)
-      → Writes shape t (x .rd) value r regs after → outcome r (lent p after device local) ≡ done
-  arm-one o e r value after v h = value-left r value _ after h v ∙ as-one o e
-
-  pub arm-special : x .op ≡ Op.Special → (r : Faults) (value after : List ℕ) → value ≡ byLane W (specialOf (x .rs1))
-      → Writes shape t (x .rd) value r regs after → outcome r (lent p after device local) ≡ done
-  arm-special e r value after v h = value-left r value _ after h v ∙ as-special e
-
-  pub arm-number : x .op ≡ Op.Number → (r : Faults) (value after : List ℕ) → value ≡ byLane W (λ i. x .number)
-      → Writes shape t (x .rd) value r regs after → outcome r (lent p after device local) ≡ done
-  arm-number e r value after v h = value-left r value _ after h v ∙ as-number e
-
-  pub arm-load : (s : Space) → x .op ≡ Op.Load s → W ≤ widest → (r : Faults) (after : List ℕ)
-      → Loads s shape t (x .rd) (x .rs1) (x .number) (memoryOf s both) r regs after
+  pub arm-load : (s : Space) → Ready (Op.Load s) shape x regs → (r : Faults) (after : List ℕ) → Loads s shape x t (memoryOf s both) r regs after
       → outcome r (lent p after device local) ≡ done
-  arm-load s e n r after h = settled-outcome (settled-within (λ (l : List ℕ). left l both) h) ∙ as-load s e n
+  arm-load s y r after h =
+      settled-outcome (settled-within (λ (l : List ℕ). left l both) h) ∙ as-load s (y .is) (narrow shape x regs (y .shaped))
 
-  pub arm-store : (s : Space) → x .op ≡ Op.Store s → W ≤ widest → (r : Faults) (device′ local′ : List ℕ)
-      → StoresIn s shape t (x .rd) (x .rs1) (x .number) regs r both (memories device′ local′)
-      → outcome r (lent p regs device′ local′) ≡ done
-  arm-store s e n r device′ local′ h = settled-outcome (settled-within (left regs) h) ∙ as-store s e n
+  -- a store, by its memory
+  pub arm-store-device : Ready (Op.Store Space.Device) shape x regs → (r : Faults) (device′ : List ℕ)
+      → Stores Space.Device shape x t regs r device device′ → outcome r (lent p regs device′ local) ≡ done
+  arm-store-device y r device′ h =
+      settled-outcome (settled-within (λ (l : List ℕ). left regs (memories l local)) h)
+      ∙ as-store Space.Device (y .is) (narrow shape x regs (y .shaped))
 
-  -- both parts of what an atomic was lent
-  changes-left : (change : Change) (b c : ℕ) (r : Faults) (after device′ : List ℕ)
-      → Changes change shape t (x .rd) (x .rs1) b c r regs after device device′
-      → outcome r (lent p after device′ local) ≡ unlessFault (addressFaults Space.Device W bases (length device) t) before (changes (changeTo change shape regs b c))
-  changes-left change b c r after device′ h = settled-outcome (settled-both (λ (l d : List ℕ). left l (memories d local)) (h .0) (h .1))
+  pub arm-store-local : Ready (Op.Store Space.Local) shape x regs → (r : Faults) (local′ : List ℕ)
+      → Stores Space.Local shape x t regs r local local′ → outcome r (lent p regs device local′) ≡ done
+  arm-store-local y r local′ h =
+      settled-outcome (settled-within (λ (l : List ℕ). left regs (memories device l)) h)
+      ∙ as-store Space.Local (y .is) (narrow shape x regs (y .shaped))
 
-  pub arm-atomic : (o : AtomicOp) → x .op ≡ Op.Atomic o → (r : Faults) (after device′ : List ℕ)
-      → Changes (Change.Atomic o) shape t (x .rd) (x .rs1) (x .rs2) (x .rs2) r regs after device device′
-      → outcome r (lent p after device′ local) ≡ done
-  arm-atomic o e r after device′ h = changes-left (Change.Atomic o) (x .rs2) (x .rs2) r after device′ h ∙ as-atomic o e
+  -- an atomic, by what `is_clear` told of its faults
+  module _ (change : Change) (y : Ready (opBy change) shape x regs) (c : ℕ) (named : c ≡ desiredBy change x) (l : List ℕ) (read : l ≡ bases)
+      (f : Faults) (told : f ≡ addressFaults Space.Device W l (length device) t) (test : Bool) (tested : test ≡ clear f) where
+    faults-are : f ≡ addressFaults Space.Device W bases (length device) t
+    faults-are = told ∙ ap (λ (k : List ℕ). addressFaults Space.Device W k (length device) t) read
 
-  pub arm-swap : x .op ≡ Op.Cas → (r : Faults) (after device′ : List ℕ)
-      → Changes Change.Swap shape t (x .rd) (x .rs1) (x .rs2) (x .rs3) r regs after device device′
-      → outcome r (lent p after device′ local) ≡ done
-  arm-swap e r after device′ h = changes-left Change.Swap (x .rs2) (x .rs3) r after device′ h ∙ as-swap e
+    -- lane i's change, with the register c
+    abbrev to : ℕ → ℕ → ℕ → ℕ
+    to c = changeTo change shape regs (x .rs2) c
+
+    pub arm-change : (v after device′ : List ℕ) → test ≡ true → v ≡ byLane W (oldOf l (to c) t device) → device′ ≡ changesOf W l (to c) t device
+        → after ≡ write v → outcome f (lent p after device′ local) ≡ done
+    arm-change v after device′ e g d w =
+        let made = to (desiredBy change x) in
+        settled-outcome
+        (settled-changed _ f test faults-are tested (changes made) before (lent p after device′ local) e
+        (ap₂ (λ (r m : List ℕ). left r (memories m local))
+        (w ∙ ap write (g ∙ ap₂ (λ (k : List ℕ) (c : ℕ). byLane W (oldOf k (to c) t device)) read named))
+        (d ∙ ap₂ (λ (k : List ℕ) (c : ℕ). changesOf W k (to c) t device) read named)))
+        ∙ as-change change (y .is)
+
+    pub arm-unchanged : test ≡ false → outcome f before ≡ done
+    arm-unchanged e =
+        settled-outcome (settled-same _ f test faults-are tested (changes (to (desiredBy change x))) before e) ∙ as-change change (y .is)
 
   pub arm-control : (o : ControlOp) → x .op ≡ Op.Control o → (r : Faults) → r ≡ noFaults → outcome r before ≡ done
   arm-control o e r f = ap (λ (f : Faults). outcome f before) f ∙ as-control o e

@@ -3,9 +3,9 @@ pub mod Lanewise
 pub mod Writing
 pub mod Changing
 pub mod Walking
+pub mod Standing
 pub mod Settling
 pub mod Dividing
-pub mod Standing
 pub mod Arms
 pub mod Carrying
 pub mod FaultLanes

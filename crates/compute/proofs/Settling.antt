@@ -1,7 +1,7 @@
 -- What was lent is changed where no lane faults and else as before: from what the code tests, and from other names of the parts.
-use mathlib.Core.Path.{_≡_, refl, sym, ap, ap₂, _∙_}
+use mathlib.Core.Path.{_≡_, refl, sym, ap, _∙_}
 use mathlib.Core.Bool.{Bool, true, false, cond}
-use Rattle.ground.proofs.Choices.{cond-ap, cond-ap₂}
+use Rattle.ground.proofs.Choices.{cond-ap}
 use Rattle.faulting.specs.declared.faults.Faults.{Faults}
 use Rattle.faulting.specs.Kinds.{clear}
 use Rattle.compute.specs.Classes.{Settled}
@@ -29,10 +29,3 @@ pub settled-within : {A B : Type 0} {faults answer : Faults} {changed before aft
     → Settled faults (f changed) answer (f before) (f after)
 settled-within {A} {B} {faults} {answer} {changed} {before} f h =
     record { answered = h .answered; left = ap f (h .left) ∙ cond-ap f (clear faults) changed before }
-
--- two parts of something
-pub settled-both : {A B C : Type 0} {faults answer : Faults} {changed before after : A} {changed′ before′ after′ : B} (f : A → B → C)
-    → Settled faults changed answer before after → Settled faults changed′ answer before′ after′
-    → Settled faults (f changed changed′) answer (f before before′) (f after after′)
-settled-both {A} {B} {C} {faults} {answer} {changed} {before} {after} {changed′} {before′} f h k =
-    record { answered = h .answered; left = ap₂ f (h .left) (k .left) ∙ cond-ap₂ f (clear faults) changed before changed′ before′ }

@@ -1,5 +1,5 @@
 -- An instruction in shape: each of its fields that is a register stands in the buffer.
-use mathlib.Core.Path.{_≡_}
+use mathlib.Core.Path.{_≡_, refl, _∙_}
 use mathlib.Core.Bool.{Bool, true, _&&_}
 use mathlib.Core.List.{List}
 use Prim.Native.Nat.{ℕ, _*_, _≤_, _<_}
@@ -13,8 +13,11 @@ use Rattle.instructions.specs.declared.instr.Instr.{Instr}
 use Rattle.instructions.specs.declared.registers.Registers.{Registers}
 use Rattle.instructions.specs.Registers.{registersOf, below, registersBelow}
 use Rattle.compute.specs.declared.Shape.{Shape}
+use Rattle.compute.specs.declared.memory.Change.{Change}
 use Rattle.compute.specs.Registers.{Stands}
 use Rattle.compute.specs.Carrying.{inShape}
+use Rattle.compute.specs.Lanewise.{opBy, desiredBy}
+use Rattle.compute.specs.Classes.{Ready}
 
 -- a field that is a register is below R
 register-low : (R : ℕ) (used : Bool) (field : ℕ) → used ≡ true → below R used field ≡ true → field < R
@@ -77,3 +80,36 @@ module _ (shape : Shape) (x : Instr) (regs : List ℕ) (h : inShape shape x regs
 
     pub stands-rs3 : registersOf o .rs3 ≡ true → Stands shape regs (x .rs3)
     stands-rs3 u = stands (used .rs3) (x .rs3) (rw e u) (and-right (rd-low && rs1-low && rs2-low) rs3-low registers)
+
+-- the same, of what the code's parts ask for
+module _ {o : Op} {shape : Shape} {x : Instr} {regs : List ℕ} (h : Ready o shape x regs) where
+  pub ready-narrow : shape .width ≤ widest
+  ready-narrow = narrow shape x regs (h .shaped)
+
+  pub ready-rd : registersOf o .rd ≡ true → Stands shape regs (x .rd)
+  ready-rd = stands-rd shape x regs (h .shaped) o (h .is)
+
+  pub ready-rs1 : registersOf o .rs1 ≡ true → Stands shape regs (x .rs1)
+  ready-rs1 = stands-rs1 shape x regs (h .shaped) o (h .is)
+
+  pub ready-rs2 : registersOf o .rs2 ≡ true → Stands shape regs (x .rs2)
+  ready-rs2 = stands-rs2 shape x regs (h .shaped) o (h .is)
+
+  pub ready-rs3 : registersOf o .rs3 ≡ true → Stands shape regs (x .rs3)
+  ready-rs3 = stands-rs3 shape x regs (h .shaped) o (h .is)
+
+  -- of the operation by another name
+  pub ready-as : {o′ : Op} → o ≡ o′ → Ready o′ shape x regs
+  ready-as e = record { shaped = h .shaped; is = h .is ∙ e }
+
+-- the registers of an atomic: RD, its address, its operand and the desired word
+pub record ChangeStands (change : Change) (shape : Shape) (x : Instr) (regs : List ℕ) : Type 0 where
+  pub rd : Stands shape regs (x .rd)
+  pub rs1 : Stands shape regs (x .rs1)
+  pub rs2 : Stands shape regs (x .rs2)
+  pub desired : Stands shape regs (desiredBy change x)
+
+pub ready-change : {shape : Shape} {x : Instr} {regs : List ℕ} (change : Change) → Ready (opBy change) shape x regs → ChangeStands change shape x regs
+ready-change (Change.Atomic o) h =
+    record { rd = ready-rd h refl; rs1 = ready-rs1 h refl; rs2 = ready-rs2 h refl; desired = ready-rs2 h refl }
+ready-change Change.Swap h = record { rd = ready-rd h refl; rs1 = ready-rs1 h refl; rs2 = ready-rs2 h refl; desired = ready-rs3 h refl }

@@ -45,7 +45,7 @@ module _ {W : ℕ} {at : List ℕ} {f : ℕ → ℕ → ℕ} {t : ℕ} {before m
 
   -- the lowest lane that waits takes its turn
   pub walked-more : {rest : ℕ} (h : Walked W at f t before memory out rest) (w k old : ℕ) (memory′ : List ℕ) (rest′ mark : ℕ) → k ≡ lowest w rest
-      → Lowest W t (h .next) k → old ≡ wordAt at memory k → memory′ ≡ set memory (wordOf (getD at k 0)) (f k old)
+      → Lowest W t (h .next) k → old ≡ wordAt at memory k → memory′ ≡ set memory (wordOf (getD at k 0)) (f k (wordAt at memory k))
       → rest′ ≡ without rest mark → mark ≡ only k (has rest k && true) → Walked W at f t before memory′ (set out k old) rest′
   walked-more h w k old memory′ rest′ mark e l o m r s =
       let here = onward h k (l .onward) (omega (arith, l .low)) (l .between) in
@@ -53,7 +53,7 @@ module _ {W : ℕ} {at : List ℕ} {f : ℕ → ℕ → ℕ} {t : ℕ} {before m
         next = k + 1;
         waiting = waiting-less (h .waiting) w k rest′ mark e r s l;
         found = filled-more (here .0) (l .low) old (o ∙ ap (λ (x : List ℕ). wordAt at x k) (here .1 .made) ∙ rw (l .among) refl);
-        turned = turned-more (here .1) (l .low) memory′ (m ∙ ap (λ (v : ℕ). set memory (wordOf (getD at k 0)) (f k v)) o ∙ rw (l .among) refl);
+        turned = turned-more (here .1) (l .low) memory′ (m ∙ rw (l .among) refl);
       }
 
   -- when none waits, all have had their turns

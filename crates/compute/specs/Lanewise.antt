@@ -7,6 +7,8 @@ use lib.ListN.{getD}
 use Rattle.instructions.specs.declared.instr.TwoOp.{TwoOp}
 use Rattle.instructions.specs.declared.instr.OneOp.{OneOp}
 use Rattle.instructions.specs.declared.instr.CompareOp.{CompareOp}
+use Rattle.instructions.specs.declared.instr.Op.{Op}
+use Rattle.instructions.specs.declared.instr.Instr.{Instr}
 use Rattle.arith.specs.Arith.{twoOf, oneOf, compareOf, atomicOf, swapOf}
 use Rattle.compute.specs.declared.Shape.{Shape}
 use Rattle.compute.specs.declared.memory.Change.{Change}
@@ -31,7 +33,16 @@ oneLanes o shape regs a = byLane (shape .width) (λ i. oneOf o (getD (gatherOf s
 unfoldable pub loadLanes : ℕ → List ℕ → List ℕ → List ℕ
 loadLanes W at memory = byLane W (wordAt at memory)
 
--- what an atomic or CAS leaves of the old word
+-- the operation of an atomic or CAS, and its register with the desired word: an atomic has none, and its operand stands for it
+abbrev pub opBy : Change → Op
+opBy (Change.Atomic o) = Op.Atomic o
+opBy Change.Swap = Op.Cas
+
+abbrev pub desiredBy : Change → Instr → ℕ
+desiredBy (Change.Atomic o) x = x .rs2
+desiredBy Change.Swap x = x .rs3
+
+-- what it leaves of the old word
 abbrev pub changeOf : Change → ℕ → ℕ → ℕ → ℕ
 changeOf (Change.Atomic o) old b c = atomicOf o old b
 changeOf Change.Swap old b c = swapOf old b c

@@ -16,6 +16,10 @@ slot W R i r = i * R + r
 abbrev pub slotIn : Shape → ℕ → ℕ → ℕ
 slotIn shape i r = slot (shape .width) (shape .registers) i r
 
+-- a lent buffer of registers, as the definitions read it: the registers of lane 0, then those of lane 1, ..
+abbrev pub lanesIn : Shape → List ℕ → List ℕ
+lanesIn shape l = l
+
 -- f of each lane below W, and 0 for the others of the widest wave
 unfoldable pub byLane : ℕ → (ℕ → ℕ) → List ℕ
 byLane W f = tabulate widest (λ i. cond (ltb i W) (f i) 0)

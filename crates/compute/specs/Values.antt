@@ -32,22 +32,22 @@ atomicTo o v i old = atomicOf o old (getD (v .b) i 0)
 abbrev pub swapTo : Operands → ℕ → ℕ → ℕ
 swapTo v i old = swapOf old (getD (v .b) i 0) (getD (v .c) i 0)
 
--- lane i's result: of an atomic the old word
-abbrev pub valueBy : Op → Instr → ℕ → Memories → Operands → ℕ → ℕ
-valueBy (Op.Two o) x t y v i = twoOf o (getD (v .a) i 0) (getD (v .b) i 0)
-valueBy (Op.Compare o) x t y v i = cond (compareOf o (getD (v .a) i 0) (getD (v .b) i 0)) 1 0
-valueBy (Op.One o) x t y v i = oneOf o (getD (v .a) i 0)
-valueBy Op.Special x t y v i = specialOf (x .rs1) i
-valueBy Op.Number x t y v i = x .number
-valueBy (Op.Load s) x t y v i = getD (memoryOf s y) (wordOf (addressOf (getD (v .a) i 0) (x .number))) 0
-valueBy (Op.Store s) x t y v i = 0
-valueBy (Op.Atomic o) x t y v i = oldOf (v .a) (atomicTo o v) t (y .device) i
-valueBy Op.Cas x t y v i = oldOf (v .a) (swapTo v) t (y .device) i
-valueBy (Op.Control o) x t y v i = 0
+-- lane i's result, of W lanes: of an atomic the old word
+abbrev pub valueBy : Op → ℕ → Instr → ℕ → Memories → Operands → ℕ → ℕ
+valueBy (Op.Two o) W x t y v i = twoOf o (getD (v .a) i 0) (getD (v .b) i 0)
+valueBy (Op.Compare o) W x t y v i = cond (compareOf o (getD (v .a) i 0) (getD (v .b) i 0)) 1 0
+valueBy (Op.One o) W x t y v i = oneOf o (getD (v .a) i 0)
+valueBy Op.Special W x t y v i = specialOf (x .rs1) i
+valueBy Op.Number W x t y v i = x .number
+valueBy (Op.Load s) W x t y v i = getD (memoryOf s y) (wordOf (addressOf (getD (v .a) i 0) (x .number))) 0
+valueBy (Op.Store s) W x t y v i = 0
+valueBy (Op.Atomic o) W x t y v i = oldOf (v .a) (atomicTo o v) t (y .device) i
+valueBy Op.Cas W x t y v i = oldOf (v .a) (swapTo v) t (y .device) i
+valueBy (Op.Control o) W x t y v i = 0
 
 -- every lane's result
 unfoldable pub resultsOf : Shape → Instr → ℕ → Memories → Operands → List ℕ
-resultsOf shape x t y v = byLane (shape .width) (valueBy (x .op) x t y v)
+resultsOf shape x t y v = byLane (shape .width) (valueBy (x .op) (shape .width) x t y v)
 
 -- where the results go: to the register RD, to the predicate that RD names, or nowhere
 pub data Target : Type 0 where

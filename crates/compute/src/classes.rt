@@ -1,14 +1,20 @@
 // One class of instructions each, whole: the results of every lane, then the writing, unless a lane faults.
 ghost use mathlib.Core.Path.{_≡_};
-ghost use Rattle.compute.specs.Registers.{Stands, writeLanes};
-ghost use Rattle.compute.specs.Memory.{memories, memoryOf};
-ghost use Rattle.compute.specs.Classes.{Settled, dividingFaults, Writes, Computes, Loads, Stores, StoresIn, Changes};
+ghost use mathlib.Core.List.{List};
+ghost use Prim.Native.Nat.{ℕ};
+ghost use Rattle.instructions.specs.declared.instr.Op.{Op};
+ghost use Rattle.compute.specs.Registers.{Stands, lanesIn, writeLanes};
+ghost use Rattle.compute.specs.Lanewise.{opBy, desiredBy};
+ghost use Rattle.compute.specs.Classes.{Ready, Carries, Settled, dividingFaults, Loads, Stores};
 use crate::Shape;
+use crate::constants::number_results;
+use crate::constants::special_results;
 use crate::memory::Change;
 use crate::memory::addresses;
 use crate::memory::change_lanes;
 use crate::memory::load_lanes;
 use crate::memory::store_lanes;
+use crate::one_operand::one_results;
 use crate::registers::gather;
 use crate::registers::write_lanes;
 use crate::two_operands::two_results;
@@ -17,20 +23,23 @@ use faulting::divisors::divisor_faults;
 use faulting::faults::Faults;
 use faulting::faults::is_clear;
 use faulting::faults::no_faults;
+use instructions::instr::Instr;
+use instructions::instr::OneOp;
 use instructions::instr::Space;
 use instructions::instr::TwoOp;
+use lanes::ByLane;
 use lanes::Lanes;
 
 // Every lane's result, with the fault lanes beside it.
 pub struct Results {
-    pub value: [u32; 32],
+    pub value: ByLane,
     pub faults: Faults,
 }
 
 // Writes the results of the lanes `t` to their registers `rd`, unless a lane faults.
 fn write_results(results: Results, t: Lanes, rd: u8, shape: Shape, regs: &mut [u32]) -> Faults
-    requires { ⌜ Stands shape (now regs) rd ⌝ }
-    ensures { λ r. ⌜ Settled (results .faults) (writeLanes shape (now (regs .entry)) rd t (results .value)) r (now (regs .entry)) (now (regs .exit)) ⌝ }
+    requires { ⌜ Stands shape (lanesIn shape (now regs)) rd ⌝ }
+    ensures { λ r. ⌜ Settled (results .faults) (writeLanes shape (lanesIn shape (now (regs .entry))) rd t (results .value)) r (lanesIn shape (now (regs .entry))) (lanesIn shape (now (regs .exit))) ⌝ }
 {
     let value = results.value;
     let faults = results.faults;
@@ -40,25 +49,10 @@ fn write_results(results: Results, t: Lanes, rd: u8, shape: Shape, regs: &mut [u
     faults
 }
 
-// Results that no fault stops.
-pub(crate) fn carry_value(
-    value: [u32; 32],
-    t: Lanes,
-    rd: u8,
-    shape: Shape,
-    regs: &mut [u32],
-) -> Faults
-    requires { ⌜ Stands shape (now regs) rd ⌝ }
-    ensures { λ r. ⌜ Writes shape t rd value r (now (regs .entry)) (now (regs .exit)) ⌝ }
-{
-    let faults = no_faults();
-    write_results(Results { value, faults }, t, rd, shape, regs)
-}
-
 // The faults of the lanes `t` that divide by their registers `rs2`, if `op` divides.
 fn dividing_faults(op: TwoOp, t: Lanes, shape: Shape, regs: &[u32], rs2: u8) -> Faults
-    requires { ⌜ Stands shape (now regs) rs2 ⌝ }
-    ensures { λ r. ⌜ r ≡ dividingFaults op shape (now (regs .entry)) rs2 t ⌝ }
+    requires { ⌜ Stands shape (lanesIn shape (now regs)) rs2 ⌝ }
+    ensures { λ r. ⌜ r ≡ dividingFaults op shape (lanesIn shape (now (regs .entry))) rs2 t ⌝ }
 {
     if arith::division::divides(op) {
         return divisor_faults(gather(shape, regs, rs2), t, shape.width);
@@ -66,63 +60,81 @@ fn dividing_faults(op: TwoOp, t: Lanes, shape: Shape, regs: &[u32], rs2: u8) -> 
     no_faults()
 }
 
-// An operation on RS1 and RS2: every result and the lanes that divide by zero, then the writing.
-pub(crate) fn carry_two(
-    op: TwoOp,
-    t: Lanes,
-    rd: u8,
-    rs1: u8,
-    rs2: u8,
-    shape: Shape,
-    regs: &mut [u32],
-) -> Faults
-    requires { ⌜ Stands shape (now regs) rd × Stands shape (now regs) rs1 × Stands shape (now regs) rs2 ⌝ }
-    ensures { λ r. ⌜ Computes op shape t rd rs1 rs2 r (now (regs .entry)) (now (regs .exit)) ⌝ }
+// An operation on RS1 and RS2.
+pub(crate) fn carry_two(op: TwoOp, x: Instr, t: Lanes, shape: Shape, regs: &mut [u32]) -> Faults
+    requires { ⌜ Ready (Op.Two op) shape x (lanesIn shape (now regs)) ⌝ }
+    ensures { λ r. ⌜ ((device local : List ℕ) → Carries shape x t (lanesIn shape (now (regs .entry))) device local r (lanesIn shape (now (regs .exit))) device local) ⌝ }
 {
-    let faults = dividing_faults(op, t, shape, regs, rs2);
-    let value = two_results(op, shape, regs, rs1, rs2);
-    write_results(Results { value, faults }, t, rd, shape, regs)
+    let faults = dividing_faults(op, t, shape, regs, x.rs2);
+    let value = two_results(op, shape, regs, x.rs1, x.rs2);
+    write_results(Results { value, faults }, t, x.rd, shape, regs)
+}
+
+// An operation on RS1 alone.
+pub(crate) fn carry_one(op: OneOp, x: Instr, t: Lanes, shape: Shape, regs: &mut [u32]) -> Faults
+    requires { ⌜ Ready (Op.One op) shape x (lanesIn shape (now regs)) ⌝ }
+    ensures { λ r. ⌜ ((device local : List ℕ) → Carries shape x t (lanesIn shape (now (regs .entry))) device local r (lanesIn shape (now (regs .exit))) device local) ⌝ }
+{
+    let faults = no_faults();
+    let value = one_results(op, shape, regs, x.rs1);
+    write_results(Results { value, faults }, t, x.rd, shape, regs)
+}
+
+// MOV_SPECIAL.
+pub(crate) fn carry_special(x: Instr, t: Lanes, shape: Shape, regs: &mut [u32]) -> Faults
+    requires { ⌜ Ready Op.Special shape x (lanesIn shape (now regs)) ⌝ }
+    ensures { λ r. ⌜ ((device local : List ℕ) → Carries shape x t (lanesIn shape (now (regs .entry))) device local r (lanesIn shape (now (regs .exit))) device local) ⌝ }
+{
+    let faults = no_faults();
+    let value = special_results(x.rs1, shape.width);
+    write_results(Results { value, faults }, t, x.rd, shape, regs)
+}
+
+// MOV_IMM.
+pub(crate) fn carry_number(x: Instr, t: Lanes, shape: Shape, regs: &mut [u32]) -> Faults
+    requires { ⌜ Ready Op.Number shape x (lanesIn shape (now regs)) ⌝ }
+    ensures { λ r. ⌜ ((device local : List ℕ) → Carries shape x t (lanesIn shape (now (regs .entry))) device local r (lanesIn shape (now (regs .exit))) device local) ⌝ }
+{
+    let faults = no_faults();
+    let value = number_results(x.number, shape.width);
+    write_results(Results { value, faults }, t, x.rd, shape, regs)
 }
 
 // A load from one memory.
 fn load_through(
     space: Space,
+    x: Instr,
     t: Lanes,
-    rd: u8,
-    rs1: u8,
-    offset: u32,
     shape: Shape,
     regs: &mut [u32],
     memory: &[u32],
 ) -> Faults
-    requires { ⌜ Stands shape (now regs) rd × Stands shape (now regs) rs1 ⌝ }
-    ensures { λ r. ⌜ Loads space shape t rd rs1 offset (now (memory .entry)) r (now (regs .entry)) (now (regs .exit)) ⌝ }
+    requires { ⌜ Ready (Op.Load space) shape x (lanesIn shape (now regs)) ⌝ }
+    ensures { λ r. ⌜ Loads space shape x t (now (memory .entry)) r (lanesIn shape (now (regs .entry))) (lanesIn shape (now (regs .exit))) ⌝ }
 {
     let width = shape.width;
-    let at = addresses(shape, regs, rs1, offset);
+    let at = addresses(shape, regs, x.rs1, x.number);
     let faults = address_faults(space, at, memory.len(), t, width);
     let value = load_lanes(at, memory, width);
-    write_results(Results { value, faults }, t, rd, shape, regs)
+    write_results(Results { value, faults }, t, x.rd, shape, regs)
 }
 
 // A store to one memory.
 fn store_through(
     space: Space,
+    x: Instr,
     t: Lanes,
-    rd: u8,
-    rs1: u8,
-    offset: u32,
     shape: Shape,
     regs: &[u32],
     memory: &mut [u32],
 ) -> Faults
-    requires { ⌜ Stands shape (now regs) rd × Stands shape (now regs) rs1 ⌝ }
-    ensures { λ r. ⌜ Stores space shape t rd rs1 offset (now (regs .entry)) r (now (memory .entry)) (now (memory .exit)) ⌝ }
+    requires { ⌜ Ready (Op.Store space) shape x (lanesIn shape (now regs)) ⌝ }
+    ensures { λ r. ⌜ Stores space shape x t (lanesIn shape (now (regs .entry))) r (now (memory .entry)) (now (memory .exit)) ⌝ }
 {
-    let at = addresses(shape, regs, rs1, offset);
+    let at = addresses(shape, regs, x.rs1, x.number);
     let faults = address_faults(space, at, memory.len(), t, shape.width);
     if is_clear(faults) {
-        store_lanes(at, t, rd, shape, regs, memory);
+        store_lanes(at, t, x.rd, shape, regs, memory);
     }
     faults
 }
@@ -130,65 +142,69 @@ fn store_through(
 // A load.
 pub(crate) fn carry_load(
     space: Space,
+    x: Instr,
     t: Lanes,
-    rd: u8,
-    rs1: u8,
-    offset: u32,
     shape: Shape,
     regs: &mut [u32],
     device: &[u32],
     local: &[u32],
 ) -> Faults
-    requires { ⌜ Stands shape (now regs) rd × Stands shape (now regs) rs1 ⌝ }
-    ensures { λ r. ⌜ Loads space shape t rd rs1 offset (memoryOf space (memories (now (device .entry)) (now (local .entry)))) r (now (regs .entry)) (now (regs .exit)) ⌝ }
+    requires { ⌜ Ready (Op.Load space) shape x (lanesIn shape (now regs)) ⌝ }
+    ensures { λ r. ⌜ Carries shape x t (lanesIn shape (now (regs .entry))) (now (device .entry)) (now (local .entry)) r (lanesIn shape (now (regs .exit))) (now (device .entry)) (now (local .entry)) ⌝ }
 {
     match space {
-        Space::Device => load_through(Space::Device, t, rd, rs1, offset, shape, regs, device),
-        Space::Local => load_through(Space::Local, t, rd, rs1, offset, shape, regs, local),
+        Space::Device => load_through(Space::Device, x, t, shape, regs, device),
+        Space::Local => load_through(Space::Local, x, t, shape, regs, local),
     }
 }
 
 // A store.
 pub(crate) fn carry_store(
     space: Space,
+    x: Instr,
     t: Lanes,
-    rd: u8,
-    rs1: u8,
-    offset: u32,
     shape: Shape,
     regs: &[u32],
     device: &mut [u32],
     local: &mut [u32],
 ) -> Faults
-    requires { ⌜ Stands shape (now regs) rd × Stands shape (now regs) rs1 ⌝ }
-    ensures { λ r. ⌜ StoresIn space shape t rd rs1 offset (now (regs .entry)) r (memories (now (device .entry)) (now (local .entry))) (memories (now (device .exit)) (now (local .exit))) ⌝ }
+    requires { ⌜ Ready (Op.Store space) shape x (lanesIn shape (now regs)) ⌝ }
+    ensures { λ r. ⌜ Carries shape x t (lanesIn shape (now (regs .entry))) (now (device .entry)) (now (local .entry)) r (lanesIn shape (now (regs .entry))) (now (device .exit)) (now (local .exit)) ⌝ }
 {
     match space {
-        Space::Device => store_through(Space::Device, t, rd, rs1, offset, shape, regs, device),
-        Space::Local => store_through(Space::Local, t, rd, rs1, offset, shape, regs, local),
+        Space::Device => store_through(Space::Device, x, t, shape, regs, device),
+        Space::Local => store_through(Space::Local, x, t, shape, regs, local),
+    }
+}
+
+// The register with the word that compare-and-swap would leave; an atomic has none, and its operand stands for it.
+fn desired(change: Change, x: Instr) -> u8
+    ensures { λ r. ⌜ r ≡ desiredBy change x ⌝ }
+{
+    match change {
+        Change::Atomic(_) => x.rs2,
+        Change::Swap => x.rs3,
     }
 }
 
 // An atomic, on device memory.
 pub(crate) fn carry_change(
     change: Change,
+    x: Instr,
     t: Lanes,
-    rd: u8,
-    rs1: u8,
-    rs2: u8,
-    rs3: u8,
     shape: Shape,
     regs: &mut [u32],
     device: &mut [u32],
 ) -> Faults
-    requires { ⌜ Stands shape (now regs) rd × Stands shape (now regs) rs1 × Stands shape (now regs) rs2 × Stands shape (now regs) rs3 ⌝ }
-    ensures { λ r. ⌜ Changes change shape t rd rs1 rs2 rs3 r (now (regs .entry)) (now (regs .exit)) (now (device .entry)) (now (device .exit)) ⌝ }
+    requires { ⌜ Ready (opBy change) shape x (lanesIn shape (now regs)) ⌝ }
+    ensures { λ r. ⌜ ((local : List ℕ) → Carries shape x t (lanesIn shape (now (regs .entry))) (now (device .entry)) local r (lanesIn shape (now (regs .exit))) (now (device .exit)) local) ⌝ }
 {
-    let at = gather(shape, regs, rs1);
+    let rs3 = desired(change, x);
+    let at = gather(shape, regs, x.rs1);
     let faults = address_faults(Space::Device, at, device.len(), t, shape.width);
     if is_clear(faults) {
-        let value = change_lanes(change, at, t, rs2, rs3, shape, regs, device);
-        write_lanes(value, t, rd, shape, regs);
+        let value = change_lanes(change, at, t, x.rs2, rs3, shape, regs, device);
+        write_lanes(value, t, x.rd, shape, regs);
     }
     faults
 }

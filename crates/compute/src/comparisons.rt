@@ -2,7 +2,7 @@
 ghost use mathlib.Core.Path.{_≡_};
 ghost use Prim.Native.Nat.{_≤_};
 ghost use Rattle.lanes.specs.Sets.{widest};
-ghost use Rattle.compute.specs.Registers.{Stands};
+ghost use Rattle.compute.specs.Registers.{Stands, lanesIn};
 ghost use Rattle.compute.specs.Lanewise.{compareLanes};
 ghost use Rattle.compute.specs.Values.{predicateOf};
 use crate::Shape;
@@ -10,13 +10,15 @@ use crate::masks::chosen;
 use crate::masks::marked;
 use crate::registers::slot;
 use instructions::instr::CompareOp;
+use lanes::ByLane;
+use lanes::EACH_LANE;
 use lanes::Lanes;
 
-fn compare_lanes(op: CompareOp, shape: Shape, regs: &[u32], rs1: u8, rs2: u8) -> [u32; 32]
-    requires { ⌜ Stands shape (now regs) rs1 × Stands shape (now regs) rs2 ⌝ }
-    ensures { λ r. ⌜ r ≡ compareLanes op shape (now (regs .entry)) rs1 rs2 ⌝ }
+fn compare_lanes(op: CompareOp, shape: Shape, regs: &[u32], rs1: u8, rs2: u8) -> ByLane
+    requires { ⌜ Stands shape (lanesIn shape (now regs)) rs1 × Stands shape (lanesIn shape (now regs)) rs2 ⌝ }
+    ensures { λ r. ⌜ r ≡ compareLanes op shape (lanesIn shape (now (regs .entry))) rs1 rs2 ⌝ }
 {
-    let mut out = [0u32; 32];
+    let mut out = [0u32; EACH_LANE];
     let width = shape.width;
     let mut i: u32 = 0;
     while i < width {
@@ -29,44 +31,38 @@ fn compare_lanes(op: CompareOp, shape: Shape, regs: &[u32], rs1: u8, rs2: u8) ->
     out
 }
 
-fn eq_lanes(shape: Shape, regs: &[u32], rs1: u8, rs2: u8) -> [u32; 32]
-    requires { ⌜ Stands shape (now regs) rs1 × Stands shape (now regs) rs2 ⌝ }
-    ensures { λ r. ⌜ r ≡ compareLanes CompareOp.Eq shape (now (regs .entry)) rs1 rs2 ⌝ }
+fn eq_lanes(shape: Shape, regs: &[u32], rs1: u8, rs2: u8) -> ByLane
+    requires { ⌜ Stands shape (lanesIn shape (now regs)) rs1 × Stands shape (lanesIn shape (now regs)) rs2 ⌝ }
+    ensures { λ r. ⌜ r ≡ compareLanes CompareOp.Eq shape (lanesIn shape (now (regs .entry))) rs1 rs2 ⌝ }
 {
     compare_lanes(CompareOp::Eq, shape, regs, rs1, rs2)
 }
 
-fn ne_lanes(shape: Shape, regs: &[u32], rs1: u8, rs2: u8) -> [u32; 32]
-    requires { ⌜ Stands shape (now regs) rs1 × Stands shape (now regs) rs2 ⌝ }
-    ensures { λ r. ⌜ r ≡ compareLanes CompareOp.Ne shape (now (regs .entry)) rs1 rs2 ⌝ }
+fn ne_lanes(shape: Shape, regs: &[u32], rs1: u8, rs2: u8) -> ByLane
+    requires { ⌜ Stands shape (lanesIn shape (now regs)) rs1 × Stands shape (lanesIn shape (now regs)) rs2 ⌝ }
+    ensures { λ r. ⌜ r ≡ compareLanes CompareOp.Ne shape (lanesIn shape (now (regs .entry))) rs1 rs2 ⌝ }
 {
     compare_lanes(CompareOp::Ne, shape, regs, rs1, rs2)
 }
 
-fn lt_lanes(shape: Shape, regs: &[u32], rs1: u8, rs2: u8) -> [u32; 32]
-    requires { ⌜ Stands shape (now regs) rs1 × Stands shape (now regs) rs2 ⌝ }
-    ensures { λ r. ⌜ r ≡ compareLanes CompareOp.Lt shape (now (regs .entry)) rs1 rs2 ⌝ }
+fn lt_lanes(shape: Shape, regs: &[u32], rs1: u8, rs2: u8) -> ByLane
+    requires { ⌜ Stands shape (lanesIn shape (now regs)) rs1 × Stands shape (lanesIn shape (now regs)) rs2 ⌝ }
+    ensures { λ r. ⌜ r ≡ compareLanes CompareOp.Lt shape (lanesIn shape (now (regs .entry))) rs1 rs2 ⌝ }
 {
     compare_lanes(CompareOp::Lt, shape, regs, rs1, rs2)
 }
 
-fn ge_lanes(shape: Shape, regs: &[u32], rs1: u8, rs2: u8) -> [u32; 32]
-    requires { ⌜ Stands shape (now regs) rs1 × Stands shape (now regs) rs2 ⌝ }
-    ensures { λ r. ⌜ r ≡ compareLanes CompareOp.Ge shape (now (regs .entry)) rs1 rs2 ⌝ }
+fn ge_lanes(shape: Shape, regs: &[u32], rs1: u8, rs2: u8) -> ByLane
+    requires { ⌜ Stands shape (lanesIn shape (now regs)) rs1 × Stands shape (lanesIn shape (now regs)) rs2 ⌝ }
+    ensures { λ r. ⌜ r ≡ compareLanes CompareOp.Ge shape (lanesIn shape (now (regs .entry))) rs1 rs2 ⌝ }
 {
     compare_lanes(CompareOp::Ge, shape, regs, rs1, rs2)
 }
 
 // Whether `op` holds of every lane's RS1 and RS2.
-pub(crate) fn compare_results(
-    op: CompareOp,
-    shape: Shape,
-    regs: &[u32],
-    rs1: u8,
-    rs2: u8,
-) -> [u32; 32]
-    requires { ⌜ Stands shape (now regs) rs1 × Stands shape (now regs) rs2 ⌝ }
-    ensures { λ r. ⌜ r ≡ compareLanes op shape (now (regs .entry)) rs1 rs2 ⌝ }
+pub(crate) fn compare_results(op: CompareOp, shape: Shape, regs: &[u32], rs1: u8, rs2: u8) -> ByLane
+    requires { ⌜ Stands shape (lanesIn shape (now regs)) rs1 × Stands shape (lanesIn shape (now regs)) rs2 ⌝ }
+    ensures { λ r. ⌜ r ≡ compareLanes op shape (lanesIn shape (now (regs .entry))) rs1 rs2 ⌝ }
 {
     match op {
         CompareOp::Eq => eq_lanes(shape, regs, rs1, rs2),
@@ -77,7 +73,7 @@ pub(crate) fn compare_results(
 }
 
 // The predicate after the lanes `t` wrote their results to it.
-pub(crate) fn predicate_after(results: [u32; 32], t: Lanes, predicate: Lanes, width: u32) -> Lanes
+pub(crate) fn predicate_after(results: ByLane, t: Lanes, predicate: Lanes, width: u32) -> Lanes
     requires { ⌜ width ≤ widest ⌝ }
     ensures { λ r. ⌜ r ≡ predicateOf width predicate t results ⌝ }
 {

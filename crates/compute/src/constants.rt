@@ -5,13 +5,15 @@ ghost use Rattle.lanes.specs.Sets.{widest};
 ghost use Rattle.compute.specs.Registers.{byLane};
 ghost use Rattle.compute.specs.Values.{specialOf};
 use crate::masks::chosen;
+use lanes::ByLane;
+use lanes::EACH_LANE;
 
 // What MOV_SPECIAL gives every lane.
-pub(crate) fn special_results(special: u8, width: u32) -> [u32; 32]
+pub(crate) fn special_results(special: u8, width: u32) -> ByLane
     requires { ⌜ width ≤ widest ⌝ }
     ensures { λ r. ⌜ r ≡ byLane width (specialOf special) ⌝ }
 {
-    let mut out = [0u32; 32];
+    let mut out = [0u32; EACH_LANE];
     let mut i: u32 = 0;
     while i < width {
         let k = i as usize;
@@ -22,11 +24,11 @@ pub(crate) fn special_results(special: u8, width: u32) -> [u32; 32]
 }
 
 // `number` for every lane.
-pub(crate) fn number_results(number: u32, width: u32) -> [u32; 32]
+pub(crate) fn number_results(number: u32, width: u32) -> ByLane
     requires { ⌜ width ≤ widest ⌝ }
     ensures { λ r. ⌜ r ≡ byLane width (λ i. number) ⌝ }
 {
-    let mut out = [0u32; 32];
+    let mut out = [0u32; EACH_LANE];
     let mut i: u32 = 0;
     while i < width {
         let k = i as usize;

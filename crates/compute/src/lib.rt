@@ -11,21 +11,21 @@ mod two_operands;
 
 ghost use mathlib.Core.Path.{_≡_};
 ghost use mathlib.Core.Bool.{true};
-ghost use Prim.Native.Nat.{ℕ};
 ghost use Rattle.instructions.specs.declared.instr.CompareOp.{CompareOp};
+ghost use Rattle.compute.specs.Registers.{lanesIn};
 ghost use Rattle.compute.specs.Operands.{lent, operandsOf};
-ghost use Rattle.compute.specs.Carrying.{outcome, carried, inShape, havingRead, carriedOf};
+ghost use Rattle.compute.specs.Carrying.{carried, inShape, havingRead, carriedOf};
+ghost use Rattle.compute.specs.Classes.{Carries};
 use crate::classes::carry_change;
 use crate::classes::carry_load;
+use crate::classes::carry_number;
+use crate::classes::carry_one;
+use crate::classes::carry_special;
 use crate::classes::carry_store;
 use crate::classes::carry_two;
-use crate::classes::carry_value;
 use crate::comparisons::compare_results;
 use crate::comparisons::predicate_after;
-use crate::constants::number_results;
-use crate::constants::special_results;
 use crate::memory::Change;
-use crate::one_operand::one_results;
 use faulting::faults::Faults;
 use faulting::faults::no_faults;
 use instructions::instr::Instr;
@@ -58,7 +58,7 @@ pub fn carry_out(
     device: &mut [u32],
     local: &mut [u32],
 ) -> Carried
-    ensures { λ r. ⌜ carried r (now (regs .exit)) (now (device .exit)) (now (local .exit)) ≡ carriedOf shape x t (lent predicate (now (regs .entry)) (now (device .entry)) (now (local .entry))) ⌝ }
+    ensures { λ r. ⌜ carried r (lanesIn shape (now (regs .exit))) (now (device .exit)) (now (local .exit)) ≡ carriedOf shape x t (lent predicate (lanesIn shape (now (regs .entry))) (now (device .entry)) (now (local .entry))) ⌝ }
 {
     if in_shape(shape, x, regs) {
         return carry(x, t, predicate, shape, regs, device, local);
@@ -71,7 +71,7 @@ pub fn carry_out(
 
 // Whether the wave is no wider than the widest, every register of `x` is below the number of registers, and the buffer has room for all.
 fn in_shape(shape: Shape, x: Instr, regs: &[u32]) -> bool
-    ensures { λ r. ⌜ r ≡ inShape shape x (now (regs .entry)) ⌝ }
+    ensures { λ r. ⌜ r ≡ inShape shape x (lanesIn shape (now (regs .entry))) ⌝ }
 {
     let room = (shape.width as usize) * (shape.registers as usize);
     (shape.width <= WIDEST) & registers_below(x, shape.registers) & (room <= regs.len())
@@ -87,8 +87,8 @@ fn carry(
     device: &mut [u32],
     local: &mut [u32],
 ) -> Carried
-    requires { ⌜ inShape shape x (now regs) ≡ true ⌝ }
-    ensures { λ r. ⌜ carried r (now (regs .exit)) (now (device .exit)) (now (local .exit)) ≡ havingRead shape x t (operandsOf shape x (now (regs .entry))) (lent predicate (now (regs .entry)) (now (device .entry)) (now (local .entry))) ⌝ }
+    requires { ⌜ inShape shape x (lanesIn shape (now regs)) ≡ true ⌝ }
+    ensures { λ r. ⌜ carried r (lanesIn shape (now (regs .exit))) (now (device .exit)) (now (local .exit)) ≡ havingRead shape x t (operandsOf shape x (lanesIn shape (now (regs .entry)))) (lent predicate (lanesIn shape (now (regs .entry))) (now (device .entry)) (now (local .entry))) ⌝ }
 {
     let op = x.op;
     let Op::Compare(o) = op else {
@@ -111,29 +111,20 @@ fn carry_class(
     device: &mut [u32],
     local: &mut [u32],
 ) -> Faults
-    requires { ⌜ (inShape shape x (now regs) ≡ true) × ((o : CompareOp) → x .op ≡ Op.Compare o → ⊥) ⌝ }
-    ensures { λ r. ⌜ ((p : ℕ) → outcome r (lent p (now (regs .exit)) (now (device .exit)) (now (local .exit))) ≡ havingRead shape x t (operandsOf shape x (now (regs .entry))) (lent p (now (regs .entry)) (now (device .entry)) (now (local .entry)))) ⌝ }
+    requires { ⌜ (inShape shape x (lanesIn shape (now regs)) ≡ true) × ((o : CompareOp) → x .op ≡ Op.Compare o → ⊥) ⌝ }
+    ensures { λ r. ⌜ Carries shape x t (lanesIn shape (now (regs .entry))) (now (device .entry)) (now (local .entry)) r (lanesIn shape (now (regs .exit))) (now (device .exit)) (now (local .exit)) ⌝ }
 {
-    let width = shape.width;
-    let rd = x.rd;
-    let rs1 = x.rs1;
-    let rs2 = x.rs2;
-    let rs3 = x.rs3;
-    let n = x.number;
     let op = x.op;
     match op {
-        Op::Two(o) => carry_two(o, t, rd, rs1, rs2, shape, regs),
+        Op::Two(o) => carry_two(o, x, t, shape, regs),
         Op::Compare(_) => no_faults(),
-        Op::One(o) => carry_value(one_results(o, shape, regs, rs1), t, rd, shape, regs),
-        Op::Special => carry_value(special_results(rs1, width), t, rd, shape, regs),
-        Op::Number => carry_value(number_results(n, width), t, rd, shape, regs),
-        Op::Load(space) => carry_load(space, t, rd, rs1, n, shape, regs, device, local),
-        Op::Store(space) => carry_store(space, t, rd, rs1, n, shape, regs, device, local),
-        Op::Atomic(o) => {
-            let change = Change::Atomic(o);
-            carry_change(change, t, rd, rs1, rs2, rs2, shape, regs, device)
-        }
-        Op::Cas => carry_change(Change::Swap, t, rd, rs1, rs2, rs3, shape, regs, device),
+        Op::One(o) => carry_one(o, x, t, shape, regs),
+        Op::Special => carry_special(x, t, shape, regs),
+        Op::Number => carry_number(x, t, shape, regs),
+        Op::Load(space) => carry_load(space, x, t, shape, regs, device, local),
+        Op::Store(space) => carry_store(space, x, t, shape, regs, device, local),
+        Op::Atomic(o) => carry_change(Change::Atomic(o), x, t, shape, regs, device),
+        Op::Cas => carry_change(Change::Swap, x, t, shape, regs, device),
         Op::Control(_) => no_faults(),
     }
 }

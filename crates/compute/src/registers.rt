@@ -1,10 +1,12 @@
 // Where the registers stand: reading a register of every lane, and the writer.
 ghost use mathlib.Core.Path.{_≡_};
 ghost use Rattle.lanes.specs.Sets.{first};
-ghost use Rattle.compute.specs.Registers.{Stands, slotIn, gatherOf, writeLanes};
+ghost use Rattle.compute.specs.Registers.{Stands, lanesIn, slotIn, gatherOf, writeLanes};
 use crate::Shape;
 use crate::masks::chosen;
 use crate::masks::picks;
+use lanes::ByLane;
+use lanes::EACH_LANE;
 use lanes::Lanes;
 
 // Where register `register` of `lane` stands.
@@ -15,11 +17,11 @@ pub(crate) fn slot(shape: Shape, lane: u32, register: u8) -> usize
 }
 
 // Register `register` of every lane.
-pub(crate) fn gather(shape: Shape, regs: &[u32], register: u8) -> [u32; 32]
-    requires { ⌜ Stands shape (now regs) register ⌝ }
-    ensures { λ r. ⌜ r ≡ gatherOf shape (now (regs .entry)) register ⌝ }
+pub(crate) fn gather(shape: Shape, regs: &[u32], register: u8) -> ByLane
+    requires { ⌜ Stands shape (lanesIn shape (now regs)) register ⌝ }
+    ensures { λ r. ⌜ r ≡ gatherOf shape (lanesIn shape (now (regs .entry))) register ⌝ }
 {
-    let mut out = [0u32; 32];
+    let mut out = [0u32; EACH_LANE];
     let width = shape.width;
     let mut i: u32 = 0;
     while i < width {
@@ -32,9 +34,9 @@ pub(crate) fn gather(shape: Shape, regs: &[u32], register: u8) -> [u32; 32]
 }
 
 // Writes the results of every lane to its register `rd`.
-fn write_all_lanes(results: [u32; 32], rd: u8, shape: Shape, regs: &mut [u32])
-    requires { ⌜ Stands shape (now regs) rd ⌝ }
-    ensures { λ r. ⌜ now (regs .exit) ≡ writeLanes shape (now (regs .entry)) rd (first (shape .width)) results ⌝ }
+fn write_all_lanes(results: ByLane, rd: u8, shape: Shape, regs: &mut [u32])
+    requires { ⌜ Stands shape (lanesIn shape (now regs)) rd ⌝ }
+    ensures { λ r. ⌜ lanesIn shape (now (regs .exit)) ≡ writeLanes shape (lanesIn shape (now (regs .entry))) rd (first (shape .width)) results ⌝ }
 {
     let width = shape.width;
     let mut i: u32 = 0;
@@ -47,9 +49,9 @@ fn write_all_lanes(results: [u32; 32], rd: u8, shape: Shape, regs: &mut [u32])
 }
 
 // Writes the results of the lanes `t` to their registers `rd`, lane by lane with a choice.
-fn write_some_lanes(results: [u32; 32], t: Lanes, rd: u8, shape: Shape, regs: &mut [u32])
-    requires { ⌜ Stands shape (now regs) rd ⌝ }
-    ensures { λ r. ⌜ now (regs .exit) ≡ writeLanes shape (now (regs .entry)) rd t results ⌝ }
+fn write_some_lanes(results: ByLane, t: Lanes, rd: u8, shape: Shape, regs: &mut [u32])
+    requires { ⌜ Stands shape (lanesIn shape (now regs)) rd ⌝ }
+    ensures { λ r. ⌜ lanesIn shape (now (regs .exit)) ≡ writeLanes shape (lanesIn shape (now (regs .entry))) rd t results ⌝ }
 {
     let width = shape.width;
     let mut i: u32 = 0;
@@ -63,9 +65,9 @@ fn write_some_lanes(results: [u32; 32], t: Lanes, rd: u8, shape: Shape, regs: &m
 }
 
 // Writes the results of the lanes `t` to their registers `rd`.
-pub(crate) fn write_lanes(results: [u32; 32], t: Lanes, rd: u8, shape: Shape, regs: &mut [u32])
-    requires { ⌜ Stands shape (now regs) rd ⌝ }
-    ensures { λ r. ⌜ now (regs .exit) ≡ writeLanes shape (now (regs .entry)) rd t results ⌝ }
+pub(crate) fn write_lanes(results: ByLane, t: Lanes, rd: u8, shape: Shape, regs: &mut [u32])
+    requires { ⌜ Stands shape (lanesIn shape (now regs)) rd ⌝ }
+    ensures { λ r. ⌜ lanesIn shape (now (regs .exit)) ≡ writeLanes shape (lanesIn shape (now (regs .entry))) rd t results ⌝ }
 {
     if t == lanes::first(shape.width) {
         write_all_lanes(results, rd, shape, regs);

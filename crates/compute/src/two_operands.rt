@@ -1,17 +1,19 @@
 // Results of the operations on RS1 and RS2. `two_lanes` is the loop; each operation calls it through a function of its own, so that
 // the compiler makes a loop for each operation, with no choice of operation within.
 ghost use mathlib.Core.Path.{_≡_};
-ghost use Rattle.compute.specs.Registers.{Stands};
+ghost use Rattle.compute.specs.Registers.{Stands, lanesIn};
 ghost use Rattle.compute.specs.Lanewise.{twoLanes};
 use crate::Shape;
 use crate::registers::slot;
 use instructions::instr::TwoOp;
+use lanes::ByLane;
+use lanes::EACH_LANE;
 
-fn two_lanes(op: TwoOp, shape: Shape, regs: &[u32], rs1: u8, rs2: u8) -> [u32; 32]
-    requires { ⌜ Stands shape (now regs) rs1 × Stands shape (now regs) rs2 ⌝ }
-    ensures { λ r. ⌜ r ≡ twoLanes op shape (now (regs .entry)) rs1 rs2 ⌝ }
+fn two_lanes(op: TwoOp, shape: Shape, regs: &[u32], rs1: u8, rs2: u8) -> ByLane
+    requires { ⌜ Stands shape (lanesIn shape (now regs)) rs1 × Stands shape (lanesIn shape (now regs)) rs2 ⌝ }
+    ensures { λ r. ⌜ r ≡ twoLanes op shape (lanesIn shape (now (regs .entry))) rs1 rs2 ⌝ }
 {
-    let mut out = [0u32; 32];
+    let mut out = [0u32; EACH_LANE];
     let width = shape.width;
     let mut i: u32 = 0;
     while i < width {
@@ -24,122 +26,122 @@ fn two_lanes(op: TwoOp, shape: Shape, regs: &[u32], rs1: u8, rs2: u8) -> [u32; 3
     out
 }
 
-fn add_lanes(shape: Shape, regs: &[u32], rs1: u8, rs2: u8) -> [u32; 32]
-    requires { ⌜ Stands shape (now regs) rs1 × Stands shape (now regs) rs2 ⌝ }
-    ensures { λ r. ⌜ r ≡ twoLanes TwoOp.Add shape (now (regs .entry)) rs1 rs2 ⌝ }
+fn add_lanes(shape: Shape, regs: &[u32], rs1: u8, rs2: u8) -> ByLane
+    requires { ⌜ Stands shape (lanesIn shape (now regs)) rs1 × Stands shape (lanesIn shape (now regs)) rs2 ⌝ }
+    ensures { λ r. ⌜ r ≡ twoLanes TwoOp.Add shape (lanesIn shape (now (regs .entry))) rs1 rs2 ⌝ }
 {
     two_lanes(TwoOp::Add, shape, regs, rs1, rs2)
 }
 
-fn sub_lanes(shape: Shape, regs: &[u32], rs1: u8, rs2: u8) -> [u32; 32]
-    requires { ⌜ Stands shape (now regs) rs1 × Stands shape (now regs) rs2 ⌝ }
-    ensures { λ r. ⌜ r ≡ twoLanes TwoOp.Sub shape (now (regs .entry)) rs1 rs2 ⌝ }
+fn sub_lanes(shape: Shape, regs: &[u32], rs1: u8, rs2: u8) -> ByLane
+    requires { ⌜ Stands shape (lanesIn shape (now regs)) rs1 × Stands shape (lanesIn shape (now regs)) rs2 ⌝ }
+    ensures { λ r. ⌜ r ≡ twoLanes TwoOp.Sub shape (lanesIn shape (now (regs .entry))) rs1 rs2 ⌝ }
 {
     two_lanes(TwoOp::Sub, shape, regs, rs1, rs2)
 }
 
-fn mul_lanes(shape: Shape, regs: &[u32], rs1: u8, rs2: u8) -> [u32; 32]
-    requires { ⌜ Stands shape (now regs) rs1 × Stands shape (now regs) rs2 ⌝ }
-    ensures { λ r. ⌜ r ≡ twoLanes TwoOp.Mul shape (now (regs .entry)) rs1 rs2 ⌝ }
+fn mul_lanes(shape: Shape, regs: &[u32], rs1: u8, rs2: u8) -> ByLane
+    requires { ⌜ Stands shape (lanesIn shape (now regs)) rs1 × Stands shape (lanesIn shape (now regs)) rs2 ⌝ }
+    ensures { λ r. ⌜ r ≡ twoLanes TwoOp.Mul shape (lanesIn shape (now (regs .entry))) rs1 rs2 ⌝ }
 {
     two_lanes(TwoOp::Mul, shape, regs, rs1, rs2)
 }
 
-fn div_lanes(shape: Shape, regs: &[u32], rs1: u8, rs2: u8) -> [u32; 32]
-    requires { ⌜ Stands shape (now regs) rs1 × Stands shape (now regs) rs2 ⌝ }
-    ensures { λ r. ⌜ r ≡ twoLanes TwoOp.Div shape (now (regs .entry)) rs1 rs2 ⌝ }
+fn div_lanes(shape: Shape, regs: &[u32], rs1: u8, rs2: u8) -> ByLane
+    requires { ⌜ Stands shape (lanesIn shape (now regs)) rs1 × Stands shape (lanesIn shape (now regs)) rs2 ⌝ }
+    ensures { λ r. ⌜ r ≡ twoLanes TwoOp.Div shape (lanesIn shape (now (regs .entry))) rs1 rs2 ⌝ }
 {
     two_lanes(TwoOp::Div, shape, regs, rs1, rs2)
 }
 
-fn udiv_lanes(shape: Shape, regs: &[u32], rs1: u8, rs2: u8) -> [u32; 32]
-    requires { ⌜ Stands shape (now regs) rs1 × Stands shape (now regs) rs2 ⌝ }
-    ensures { λ r. ⌜ r ≡ twoLanes TwoOp.Udiv shape (now (regs .entry)) rs1 rs2 ⌝ }
+fn udiv_lanes(shape: Shape, regs: &[u32], rs1: u8, rs2: u8) -> ByLane
+    requires { ⌜ Stands shape (lanesIn shape (now regs)) rs1 × Stands shape (lanesIn shape (now regs)) rs2 ⌝ }
+    ensures { λ r. ⌜ r ≡ twoLanes TwoOp.Udiv shape (lanesIn shape (now (regs .entry))) rs1 rs2 ⌝ }
 {
     two_lanes(TwoOp::Udiv, shape, regs, rs1, rs2)
 }
 
-fn rem_lanes(shape: Shape, regs: &[u32], rs1: u8, rs2: u8) -> [u32; 32]
-    requires { ⌜ Stands shape (now regs) rs1 × Stands shape (now regs) rs2 ⌝ }
-    ensures { λ r. ⌜ r ≡ twoLanes TwoOp.Rem shape (now (regs .entry)) rs1 rs2 ⌝ }
+fn rem_lanes(shape: Shape, regs: &[u32], rs1: u8, rs2: u8) -> ByLane
+    requires { ⌜ Stands shape (lanesIn shape (now regs)) rs1 × Stands shape (lanesIn shape (now regs)) rs2 ⌝ }
+    ensures { λ r. ⌜ r ≡ twoLanes TwoOp.Rem shape (lanesIn shape (now (regs .entry))) rs1 rs2 ⌝ }
 {
     two_lanes(TwoOp::Rem, shape, regs, rs1, rs2)
 }
 
-fn urem_lanes(shape: Shape, regs: &[u32], rs1: u8, rs2: u8) -> [u32; 32]
-    requires { ⌜ Stands shape (now regs) rs1 × Stands shape (now regs) rs2 ⌝ }
-    ensures { λ r. ⌜ r ≡ twoLanes TwoOp.Urem shape (now (regs .entry)) rs1 rs2 ⌝ }
+fn urem_lanes(shape: Shape, regs: &[u32], rs1: u8, rs2: u8) -> ByLane
+    requires { ⌜ Stands shape (lanesIn shape (now regs)) rs1 × Stands shape (lanesIn shape (now regs)) rs2 ⌝ }
+    ensures { λ r. ⌜ r ≡ twoLanes TwoOp.Urem shape (lanesIn shape (now (regs .entry))) rs1 rs2 ⌝ }
 {
     two_lanes(TwoOp::Urem, shape, regs, rs1, rs2)
 }
 
-fn min_lanes(shape: Shape, regs: &[u32], rs1: u8, rs2: u8) -> [u32; 32]
-    requires { ⌜ Stands shape (now regs) rs1 × Stands shape (now regs) rs2 ⌝ }
-    ensures { λ r. ⌜ r ≡ twoLanes TwoOp.Min shape (now (regs .entry)) rs1 rs2 ⌝ }
+fn min_lanes(shape: Shape, regs: &[u32], rs1: u8, rs2: u8) -> ByLane
+    requires { ⌜ Stands shape (lanesIn shape (now regs)) rs1 × Stands shape (lanesIn shape (now regs)) rs2 ⌝ }
+    ensures { λ r. ⌜ r ≡ twoLanes TwoOp.Min shape (lanesIn shape (now (regs .entry))) rs1 rs2 ⌝ }
 {
     two_lanes(TwoOp::Min, shape, regs, rs1, rs2)
 }
 
-fn max_lanes(shape: Shape, regs: &[u32], rs1: u8, rs2: u8) -> [u32; 32]
-    requires { ⌜ Stands shape (now regs) rs1 × Stands shape (now regs) rs2 ⌝ }
-    ensures { λ r. ⌜ r ≡ twoLanes TwoOp.Max shape (now (regs .entry)) rs1 rs2 ⌝ }
+fn max_lanes(shape: Shape, regs: &[u32], rs1: u8, rs2: u8) -> ByLane
+    requires { ⌜ Stands shape (lanesIn shape (now regs)) rs1 × Stands shape (lanesIn shape (now regs)) rs2 ⌝ }
+    ensures { λ r. ⌜ r ≡ twoLanes TwoOp.Max shape (lanesIn shape (now (regs .entry))) rs1 rs2 ⌝ }
 {
     two_lanes(TwoOp::Max, shape, regs, rs1, rs2)
 }
 
-fn mulhi_lanes(shape: Shape, regs: &[u32], rs1: u8, rs2: u8) -> [u32; 32]
-    requires { ⌜ Stands shape (now regs) rs1 × Stands shape (now regs) rs2 ⌝ }
-    ensures { λ r. ⌜ r ≡ twoLanes TwoOp.Mulhi shape (now (regs .entry)) rs1 rs2 ⌝ }
+fn mulhi_lanes(shape: Shape, regs: &[u32], rs1: u8, rs2: u8) -> ByLane
+    requires { ⌜ Stands shape (lanesIn shape (now regs)) rs1 × Stands shape (lanesIn shape (now regs)) rs2 ⌝ }
+    ensures { λ r. ⌜ r ≡ twoLanes TwoOp.Mulhi shape (lanesIn shape (now (regs .entry))) rs1 rs2 ⌝ }
 {
     two_lanes(TwoOp::Mulhi, shape, regs, rs1, rs2)
 }
 
-fn and_lanes(shape: Shape, regs: &[u32], rs1: u8, rs2: u8) -> [u32; 32]
-    requires { ⌜ Stands shape (now regs) rs1 × Stands shape (now regs) rs2 ⌝ }
-    ensures { λ r. ⌜ r ≡ twoLanes TwoOp.And shape (now (regs .entry)) rs1 rs2 ⌝ }
+fn and_lanes(shape: Shape, regs: &[u32], rs1: u8, rs2: u8) -> ByLane
+    requires { ⌜ Stands shape (lanesIn shape (now regs)) rs1 × Stands shape (lanesIn shape (now regs)) rs2 ⌝ }
+    ensures { λ r. ⌜ r ≡ twoLanes TwoOp.And shape (lanesIn shape (now (regs .entry))) rs1 rs2 ⌝ }
 {
     two_lanes(TwoOp::And, shape, regs, rs1, rs2)
 }
 
-fn or_lanes(shape: Shape, regs: &[u32], rs1: u8, rs2: u8) -> [u32; 32]
-    requires { ⌜ Stands shape (now regs) rs1 × Stands shape (now regs) rs2 ⌝ }
-    ensures { λ r. ⌜ r ≡ twoLanes TwoOp.Or shape (now (regs .entry)) rs1 rs2 ⌝ }
+fn or_lanes(shape: Shape, regs: &[u32], rs1: u8, rs2: u8) -> ByLane
+    requires { ⌜ Stands shape (lanesIn shape (now regs)) rs1 × Stands shape (lanesIn shape (now regs)) rs2 ⌝ }
+    ensures { λ r. ⌜ r ≡ twoLanes TwoOp.Or shape (lanesIn shape (now (regs .entry))) rs1 rs2 ⌝ }
 {
     two_lanes(TwoOp::Or, shape, regs, rs1, rs2)
 }
 
-fn xor_lanes(shape: Shape, regs: &[u32], rs1: u8, rs2: u8) -> [u32; 32]
-    requires { ⌜ Stands shape (now regs) rs1 × Stands shape (now regs) rs2 ⌝ }
-    ensures { λ r. ⌜ r ≡ twoLanes TwoOp.Xor shape (now (regs .entry)) rs1 rs2 ⌝ }
+fn xor_lanes(shape: Shape, regs: &[u32], rs1: u8, rs2: u8) -> ByLane
+    requires { ⌜ Stands shape (lanesIn shape (now regs)) rs1 × Stands shape (lanesIn shape (now regs)) rs2 ⌝ }
+    ensures { λ r. ⌜ r ≡ twoLanes TwoOp.Xor shape (lanesIn shape (now (regs .entry))) rs1 rs2 ⌝ }
 {
     two_lanes(TwoOp::Xor, shape, regs, rs1, rs2)
 }
 
-fn shl_lanes(shape: Shape, regs: &[u32], rs1: u8, rs2: u8) -> [u32; 32]
-    requires { ⌜ Stands shape (now regs) rs1 × Stands shape (now regs) rs2 ⌝ }
-    ensures { λ r. ⌜ r ≡ twoLanes TwoOp.Shl shape (now (regs .entry)) rs1 rs2 ⌝ }
+fn shl_lanes(shape: Shape, regs: &[u32], rs1: u8, rs2: u8) -> ByLane
+    requires { ⌜ Stands shape (lanesIn shape (now regs)) rs1 × Stands shape (lanesIn shape (now regs)) rs2 ⌝ }
+    ensures { λ r. ⌜ r ≡ twoLanes TwoOp.Shl shape (lanesIn shape (now (regs .entry))) rs1 rs2 ⌝ }
 {
     two_lanes(TwoOp::Shl, shape, regs, rs1, rs2)
 }
 
-fn shr_lanes(shape: Shape, regs: &[u32], rs1: u8, rs2: u8) -> [u32; 32]
-    requires { ⌜ Stands shape (now regs) rs1 × Stands shape (now regs) rs2 ⌝ }
-    ensures { λ r. ⌜ r ≡ twoLanes TwoOp.Shr shape (now (regs .entry)) rs1 rs2 ⌝ }
+fn shr_lanes(shape: Shape, regs: &[u32], rs1: u8, rs2: u8) -> ByLane
+    requires { ⌜ Stands shape (lanesIn shape (now regs)) rs1 × Stands shape (lanesIn shape (now regs)) rs2 ⌝ }
+    ensures { λ r. ⌜ r ≡ twoLanes TwoOp.Shr shape (lanesIn shape (now (regs .entry))) rs1 rs2 ⌝ }
 {
     two_lanes(TwoOp::Shr, shape, regs, rs1, rs2)
 }
 
-fn sar_lanes(shape: Shape, regs: &[u32], rs1: u8, rs2: u8) -> [u32; 32]
-    requires { ⌜ Stands shape (now regs) rs1 × Stands shape (now regs) rs2 ⌝ }
-    ensures { λ r. ⌜ r ≡ twoLanes TwoOp.Sar shape (now (regs .entry)) rs1 rs2 ⌝ }
+fn sar_lanes(shape: Shape, regs: &[u32], rs1: u8, rs2: u8) -> ByLane
+    requires { ⌜ Stands shape (lanesIn shape (now regs)) rs1 × Stands shape (lanesIn shape (now regs)) rs2 ⌝ }
+    ensures { λ r. ⌜ r ≡ twoLanes TwoOp.Sar shape (lanesIn shape (now (regs .entry))) rs1 rs2 ⌝ }
 {
     two_lanes(TwoOp::Sar, shape, regs, rs1, rs2)
 }
 
 // What `op` gives of every lane's RS1 and RS2.
-pub(crate) fn two_results(op: TwoOp, shape: Shape, regs: &[u32], rs1: u8, rs2: u8) -> [u32; 32]
-    requires { ⌜ Stands shape (now regs) rs1 × Stands shape (now regs) rs2 ⌝ }
-    ensures { λ r. ⌜ r ≡ twoLanes op shape (now (regs .entry)) rs1 rs2 ⌝ }
+pub(crate) fn two_results(op: TwoOp, shape: Shape, regs: &[u32], rs1: u8, rs2: u8) -> ByLane
+    requires { ⌜ Stands shape (lanesIn shape (now regs)) rs1 × Stands shape (lanesIn shape (now regs)) rs2 ⌝ }
+    ensures { λ r. ⌜ r ≡ twoLanes op shape (lanesIn shape (now (regs .entry))) rs1 rs2 ⌝ }
 {
     match op {
         TwoOp::Add => add_lanes(shape, regs, rs1, rs2),

@@ -14,7 +14,8 @@ use Rattle.ground.specs.Tests.{allOf}
 use Rattle.ground.proofs.Tests.{true-or-false}
 use Rattle.numbers.specs.Placed.{placed}
 use Rattle.numbers.proofs.Placing.{placed-front}
-use Rattle.body.specs.Layout.{isBody, short}
+use Rattle.body.specs.Body.{setBytes}
+use Rattle.body.specs.Layout.{kindLists, isBody, short}
 use Rattle.body.proofs.Starts.{of-starts, starts-long, starts-append, body-starts}
 use Rattle.dayfile.specs.declared.making.Survey.{Survey}
 use Rattle.dayfile.specs.declared.making.Survey.the-variants.{Many}
@@ -40,13 +41,13 @@ survey-over : (bs : List (List ℕ)) (m p n : ℕ) → allOf isBody bs ≡ true 
 unfolding flatten
 survey-over [] m p n e h = absurd (omega arith)
 survey-over (b ∷ bs) zero p n e h =
-    let s = body-starts b (all-first b bs e) in
+    let s = body-starts kindLists setBytes b (all-first b bs e) in
     let l = starts-long b (s .0) in
     let k = s .1 in
     let a = length-append b (flatten bs) in
     survey-many 0 p n (b ++ flatten bs) (omega arith) refl
 survey-over (b ∷ bs) (suc m) p n e h =
-    let s = body-starts b (all-first b bs e) in
+    let s = body-starts kindLists setBytes b (all-first b bs e) in
     let t = starts-append b (flatten bs) (s .0) in
     let z = body-size b (flatten bs) (all-first b bs e) in
     let l = starts-long b (s .0) in

@@ -11,6 +11,7 @@ use crate::faults::no_faults;
 use crate::faults::of_addresses;
 use crate::widths::narrowed;
 use instructions::instr::Space;
+use lanes::ByLane;
 use lanes::Lanes;
 
 // The lanes whose address is not a multiple of 4, and those whose address is one and past the memory.
@@ -46,7 +47,7 @@ fn larger(a: u32, b: u32) -> u32
 
 // Whether every lane's address, of the lanes that do not execute too, is a multiple of 4 and within a memory of so many words: by the bits
 // that any address has, and by how many words they reach through.
-fn all_reach(at: [u32; 32], words: u32, width: u32) -> bool
+fn all_reach(at: ByLane, words: u32, width: u32) -> bool
     requires { ⌜ width ≤ widest ⌝ }
     ensures { λ r. ⌜ r ≡ allOf (inReach words) (take width at) ⌝ }
 {
@@ -64,7 +65,7 @@ fn all_reach(at: [u32; 32], words: u32, width: u32) -> bool
 }
 
 // The lanes of `t` that can't reach their addresses, in a memory of so many words.
-fn reach(at: [u32; 32], words: u32, t: Lanes, width: u32) -> Access
+fn reach(at: ByLane, words: u32, t: Lanes, width: u32) -> Access
     requires { ⌜ width ≤ widest ⌝ }
     ensures odd { λ r. ⌜ r .odd ≡ setOf width (λ i. has t i && isOdd (getD at i 0)) ⌝ }
     ensures past { λ r. ⌜ r .past ≡ setOf width (λ i. has t i && (not (isOdd (getD at i 0)) && isPast words (getD at i 0))) ⌝ }
@@ -86,7 +87,7 @@ fn reach(at: [u32; 32], words: u32, t: Lanes, width: u32) -> Access
 }
 
 // The faults of the lanes `t` at their addresses, in a memory of so many words.
-pub fn address_faults(space: Space, at: [u32; 32], words: usize, t: Lanes, width: u32) -> Faults
+pub fn address_faults(space: Space, at: ByLane, words: usize, t: Lanes, width: u32) -> Faults
     ensures { λ r. ⌜ r ≡ addressFaults space width at words t ⌝ }
 {
     let end = narrowed(width);

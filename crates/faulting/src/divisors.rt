@@ -9,10 +9,11 @@ ghost use Rattle.faulting.specs.Causes.{divisorFaults};
 use crate::faults::Faults;
 use crate::faults::of_divisors;
 use crate::widths::narrowed;
+use lanes::ByLane;
 use lanes::Lanes;
 
 // The lanes of `t` whose divisor is zero.
-fn zero_lanes(divisors: [u32; 32], t: Lanes, width: u32) -> Lanes
+fn zero_lanes(divisors: ByLane, t: Lanes, width: u32) -> Lanes
     requires { ⌜ width ≤ widest ⌝ }
     ensures { λ r. ⌜ r ≡ setOf width (λ i. has t i && eqb (getD divisors i 0) 0) ⌝ }
 {
@@ -28,7 +29,7 @@ fn zero_lanes(divisors: [u32; 32], t: Lanes, width: u32) -> Lanes
 }
 
 // The faults of the lanes `t` that divide by their divisors.
-pub fn divisor_faults(divisors: [u32; 32], t: Lanes, width: u32) -> Faults
+pub fn divisor_faults(divisors: ByLane, t: Lanes, width: u32) -> Faults
     ensures { λ r. ⌜ r ≡ divisorFaults width divisors t ⌝ }
 {
     of_divisors(zero_lanes(divisors, t, narrowed(width)))

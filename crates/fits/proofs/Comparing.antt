@@ -12,6 +12,7 @@ use lib.ListN.{length, set}
 use lib.Seq.{getD-set-same, getD-set-other}
 use lib.Dec.{eqb, leb}
 use Rattle.lanes.specs.Sets.{first, widest}
+use Rattle.blocks.specs.declared.item.Reading.{Reading}
 use Rattle.blocks.specs.declared.places.OpenAt.{OpenAt}
 use Rattle.blocks.specs.Code.{codeOf}
 use Rattle.blocks.specs.Scan.{nesting, Open}
@@ -83,18 +84,18 @@ found-agrees : (xs : List ℕ) (d : ℕ) (f : Found) (a : OpenAt) (t : Bool) →
 found-agrees xs d nowhere a t e h s = rw e
 found-agrees xs d (there o) a t e h s = rw (s, e) (there-agrees xs d o (h o refl))
 
-pub there-tested : (code : List ℕ) (registers : ℕ) (h : Hot) (xs : List ℕ) (p d : ℕ) (a : OpenAt) (t : Bool) → p ≡ h .place
-    → d ≡ min (h .depth) nesting → a ≡ shown (openAt (codeOf code registers) p) → t ≡ sameBlocks xs (a .stack .parts) (a .stack .openers) d
-    → (a .found && eqb (a .stack .depth) d && t) ≡ placeTest (openAt (codeOf code registers) (h .place)) (waveOf h xs .path)
-there-tested code registers h xs p d a t e f g s =
+pub there-tested : (code : List ℕ) (by : Reading) (h : Hot) (xs : List ℕ) (p d : ℕ) (a : OpenAt) (t : Bool) → p ≡ h .place
+    → d ≡ min (h .depth) nesting → a ≡ shown (openAt (codeOf code by) p) → t ≡ sameBlocks xs (a .stack .parts) (a .stack .openers) d
+    → (a .found && eqb (a .stack .depth) d && t) ≡ placeTest (openAt (codeOf code by) (h .place)) (waveOf h xs .path)
+there-tested code by h xs p d a t e f g s =
     rw (← e, ← f)
-    (found-agrees xs d (openAt (codeOf code registers) p) a t g (λ o z. at-most (codeOf code registers) (code-fits code registers) p o z) s)
+    (found-agrees xs d (openAt (codeOf code by) p) a t g (λ o z. at-most (codeOf code by) (code-fits code by) p o z) s)
 
 -- ---- the whole test: with more lanes than the widest wave has it says no, whatever the sets
-pub tested : (code : List ℕ) (registers n all : ℕ) (h : Hot) (xs : List ℕ) (placed sets : Bool) → all ≡ first (min n widest)
-    → placed ≡ placeTest (openAt (codeOf code registers) (h .place)) (waveOf h xs .path) → sets ≡ setsTest all (waveOf h xs) (predsOf h)
-    → (leb n widest && leb (h .depth) nesting && placed && sets) ≡ fitsTest code registers n h xs
-tested code registers n all h xs placed sets e f g =
+pub tested : (code : List ℕ) (by : Reading) (n all : ℕ) (h : Hot) (xs : List ℕ) (placed sets : Bool) → all ≡ first (min n widest)
+    → placed ≡ placeTest (openAt (codeOf code by) (h .place)) (waveOf h xs .path) → sets ≡ setsTest all (waveOf h xs) (predsOf h)
+    → (leb n widest && leb (h .depth) nesting && placed && sets) ≡ fitsTest code by n h xs
+tested code by n all h xs placed sets e f g =
     dite (decLt widest n)
     (λ p. rw (lt-leb n widest p))
     (λ p. let z : min n widest ≡ n = min-eq-left (omega arith) in rw (f, g, e, z))

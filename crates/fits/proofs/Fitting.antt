@@ -11,6 +11,7 @@ use lib.Dec.{eqb, leb}
 use Rattle.ground.proofs.Bools.{never, and-left, and-right, and-both}
 use Rattle.lanes.specs.Sets.{bit, first, widest}
 use Rattle.lanes.proofs.Bits.{bit-le, bit-zero, bit-or, set-ext, apart-sum, sum-apart, within-le, le-within}
+use Rattle.blocks.specs.declared.item.Reading.{Reading}
 use Rattle.blocks.specs.Code.{codeOf}
 use Rattle.blocks.specs.Scan.{nesting, Open}
 use Rattle.blocks.specs.OpenAt.{Found, nowhere, there, openAt, number-of, opener-of}
@@ -173,12 +174,12 @@ yes-place nowhere p s = absurd s
 yes-place (there o) p s = yes-agree p o s
 
 -- ---- the whole state
-module _ (code : List ℕ) (registers n : ℕ) (h : Hot) (xs : List ℕ) where
-  fits-yes : fitsTest code registers n h xs ≡ true → Fits code registers n h xs
+module _ (code : List ℕ) (by : Reading) (n : ℕ) (h : Hot) (xs : List ℕ) where
+  fits-yes : fitsTest code by n h xs ≡ true → Fits code by n h xs
   fits-yes t =
       let c1 : Bool = leb n widest in
       let c2 : Bool = leb (h .depth) nesting in
-      let c3 : Bool = placeTest (openAt (codeOf code registers) (h .place)) (waveOf h xs .path) in
+      let c3 : Bool = placeTest (openAt (codeOf code by) (h .place)) (waveOf h xs .path) in
       let c4 : Bool = setsTest (first n) (waveOf h xs) (predsOf h) in
       let t3 : (c1 && c2 && c3) ≡ true = and-left (c1 && c2 && c3) c4 t in
       let t2 : (c1 && c2) ≡ true = and-left (c1 && c2) c3 t3 in
@@ -187,19 +188,19 @@ module _ (code : List ℕ) (registers n : ℕ) (h : Hot) (xs : List ℕ) where
         deep = leb-true (h .depth) nesting (and-right c1 c2 t2);
         wave =
             record {
-              blocks = place-yes (openAt (codeOf code registers) (h .place)) (waveOf h xs .path) (and-right (c1 && c2) c3 t3);
+              blocks = place-yes (openAt (codeOf code by) (h .place)) (waveOf h xs .path) (and-right (c1 && c2) c3 t3);
               sets = sets-yes n (waveOf h xs) (predsOf h) (and-right (c1 && c2 && c3) c4 t);
             };
       }
 
-  yes-fits : Fits code registers n h xs → fitsTest code registers n h xs ≡ true
+  yes-fits : Fits code by n h xs → fitsTest code by n h xs ≡ true
   yes-fits f =
       rw (
         le-leb n widest (f .wide),
         le-leb (h .depth) nesting (f .deep),
-        yes-place (openAt (codeOf code registers) (h .place)) (waveOf h xs .path) (f .wave .blocks),
+        yes-place (openAt (codeOf code by) (h .place)) (waveOf h xs .path) (f .wave .blocks),
         yes-sets n (waveOf h xs) (predsOf h) (f .wave .sets),
       )
 
-  pub fits-test : (fitsTest code registers n h xs ≡ true) ↔ Fits code registers n h xs
+  pub fits-test : (fitsTest code by n h xs ≡ true) ↔ Fits code by n h xs
   fits-test = (fits-yes, yes-fits)

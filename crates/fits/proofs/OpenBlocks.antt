@@ -8,6 +8,7 @@ use native.Mathlib.Omega.{arith}
 use lib.ListN.{length}
 use Rattle.lanes.specs.Sets.{bit, first, widest}
 use Rattle.lanes.proofs.Bits.{within-first-lt}
+use Rattle.blocks.specs.declared.item.Reading.{Reading}
 use Rattle.blocks.specs.Code.{codeOf}
 use Rattle.blocks.specs.Scan.{Part, before, after, looping, Open, open-at}
 use Rattle.blocks.specs.OpenAt.{Found, nowhere, there, openAt, part-number}
@@ -40,8 +41,8 @@ part-sized before = (omega arith, omega arith)
 part-sized after = (omega arith, omega arith)
 part-sized looping = (omega arith, omega arith)
 
-module _ (code : List ℕ) (registers n : ℕ) (wide : n ≤ widest) where
-  sized : (h : ℕ) (m : ℕ → ℕ) (p : List Block) (o : List Open) → Same p o → EachOpened (codeOf code registers) o
+module _ (code : List ℕ) (by : Reading) (n : ℕ) (wide : n ≤ widest) where
+  sized : (h : ℕ) (m : ℕ → ℕ) (p : List Block) (o : List Open) → Same p o → EachOpened (codeOf code by) o
       → ((i : ℕ) → FitsAt (first n) h i (m i) p) → Quiet p → AllSized (length code) p
   unfolding EachOpened
   sized h m [] o s r f q = tt
@@ -62,12 +63,12 @@ module _ (code : List ℕ) (registers n : ℕ) (wide : n ≤ widest) where
         sized h (λ i. m i + bit (b .aside) i + bit (b .again) i) p o (s .2) (r .1) (λ i. f i .3) (q .1),
       )
 
-  pub path-sized : (w : Wave) (ps : Preds) → WaveFits code registers n w ps → AllSized (length code) (w .path)
-  path-sized w ps f = at-place (openAt (codeOf code registers) (w .place)) refl (f .blocks)
+  pub path-sized : (w : Wave) (ps : Preds) → WaveFits code by n w ps → AllSized (length code) (w .path)
+  path-sized w ps f = at-place (openAt (codeOf code by) (w .place)) refl (f .blocks)
     where
-      at-place : (x : Found) → openAt (codeOf code registers) (w .place) ≡ x → OpenThere x (w .path) → AllSized (length code) (w .path)
+      at-place : (x : Found) → openAt (codeOf code by) (w .place) ≡ x → OpenThere x (w .path) → AllSized (length code) (w .path)
       at-place nowhere e s = absurd s
       at-place (there o) e s =
           sized (w .halted) (λ i. bit (w .active) i) (w .path) o s
-          (each-opened (codeOf code registers) (code-fits code registers) (w .place) o e)
+          (each-opened (codeOf code by) (code-fits code by) (w .place) o e)
           (fits-lanes n w ps (f .sets) .0) (f .sets .quiet)

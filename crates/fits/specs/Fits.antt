@@ -4,6 +4,7 @@ use mathlib.Core.Bool.{false}
 use mathlib.Core.List.{List, [], _∷_, _++_}
 use Prim.Native.Nat.{ℕ, _+_, _≤_, _<_}
 use Rattle.lanes.specs.Sets.{bit, widest}
+use Rattle.blocks.specs.declared.item.Reading.{Reading}
 use Rattle.blocks.specs.Code.{codeOf}
 use Rattle.blocks.specs.Scan.{nesting, Open}
 use Rattle.blocks.specs.OpenAt.{Found, nowhere, there, openAt, number-of, opener-of}
@@ -67,13 +68,13 @@ abbrev pub OpenThere : Found → List Block → Type 0
 OpenThere nowhere p = ⊥
 OpenThere (there o) p = Same p o
 
-pub record WaveFits (code : List ℕ) (registers n : ℕ) (w : Wave) (ps : Preds) : Type 0 where
-  pub blocks : OpenThere (openAt (codeOf code registers) (w .place)) (w .path)
+pub record WaveFits (code : List ℕ) (by : Reading) (n : ℕ) (w : Wave) (ps : Preds) : Type 0 where
+  pub blocks : OpenThere (openAt (codeOf code by) (w .place)) (w .path)
   pub sets : SetsFit n w ps
 
 -- a state fits: no more lanes than the widest wave has, no more open blocks than there is room for, and the wave that it holds fits. The
 -- numbers past the open blocks do not count
-pub record Fits (code : List ℕ) (registers n : ℕ) (h : Hot) (xs : List ℕ) : Type 0 where
+pub record Fits (code : List ℕ) (by : Reading) (n : ℕ) (h : Hot) (xs : List ℕ) : Type 0 where
   pub wide : n ≤ widest
   pub deep : h .depth ≤ nesting
-  pub wave : WaveFits code registers n (waveOf h xs) (predsOf h)
+  pub wave : WaveFits code by n (waveOf h xs) (predsOf h)

@@ -8,6 +8,7 @@ use lib.ListN.{getD}
 use lib.Bits.{bitAnd, bitOr}
 use lib.Dec.{eqb, leb}
 use Rattle.lanes.specs.Sets.{first, widest}
+use Rattle.blocks.specs.declared.item.Reading.{Reading}
 use Rattle.blocks.specs.Code.{codeOf}
 use Rattle.blocks.specs.Scan.{nesting, Open}
 use Rattle.blocks.specs.OpenAt.{Found, nowhere, there, openAt, number-of, opener-of}
@@ -72,9 +73,9 @@ sameBlocks xs parts openers zero = true
 sameBlocks xs parts openers (suc d) = sameBlock xs parts openers d && sameBlocks xs parts openers d
 
 -- ---- the whole test
-abbrev pub fitsTest : List ℕ → ℕ → ℕ → Hot → List ℕ → Bool
-fitsTest code registers n h xs =
+abbrev pub fitsTest : List ℕ → Reading → ℕ → Hot → List ℕ → Bool
+fitsTest code by n h xs =
     leb n widest
     && leb (h .depth) nesting
-    && placeTest (openAt (codeOf code registers) (h .place)) (waveOf h xs .path)
+    && placeTest (openAt (codeOf code by) (h .place)) (waveOf h xs .path)
     && setsTest (first n) (waveOf h xs) (predsOf h)

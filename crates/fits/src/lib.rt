@@ -1,6 +1,7 @@
 // Whether a handed-in state fits.
 use crate::places::open_there;
 use crate::sets::sets_fit;
+use blocks::item::Reading;
 use lanes::WIDEST;
 use lanes::first;
 use wave::state::Hot;
@@ -13,12 +14,12 @@ mod places;
 mod sets;
 
 // Whether a state fits code that passed its check, with the lanes 0 to `n` - 1 launched: refusal 11 is where it does not.
-pub fn fits(code: &[u32], registers: u32, n: u32, h: Hot, bl: &[u32; PATH_NUMBERS]) -> bool
-    ensures { λ r. ⌜ r ≡ fitsTest (now (code .entry)) registers n h (now (bl .entry)) ⌝ }
+pub fn fits(code: &[u32], reading: Reading, n: u32, h: Hot, bl: &[u32; PATH_NUMBERS]) -> bool
+    ensures { λ r. ⌜ r ≡ fitsTest (now (code .entry)) reading n h (now (bl .entry)) ⌝ }
 {
     let wide = n <= WIDEST;
     let deep = h.depth <= NESTING;
-    let placed = open_there(code, registers, h, bl);
+    let placed = open_there(code, reading, h, bl);
     let sets = sets_fit(h, first(n), bl);
     wide & deep & placed & sets
 }

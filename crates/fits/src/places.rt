@@ -1,4 +1,5 @@
 // Whether the open blocks of a handed-in state are those that the code has open at its place.
+use blocks::item::Reading;
 use blocks::places::Stack;
 use blocks::places::open_at;
 use wave::state::BLOCK_NUMBERS;
@@ -49,10 +50,10 @@ fn same_blocks(d: u32, bl: &[u32; PATH_NUMBERS], stack: Stack) -> bool
 
 // Whether the place is an instruction's first word or the end, and the open blocks are those that the code has open there, in order, with
 // the right half of each IF.
-pub(crate) fn open_there(code: &[u32], registers: u32, h: Hot, bl: &[u32; PATH_NUMBERS]) -> bool
-    ensures { λ r. ⌜ r ≡ placeTest (openAt (codeOf (now (code .entry)) registers) (h .place)) (waveOf h (now (bl .entry)) .path) ⌝ }
+pub(crate) fn open_there(code: &[u32], reading: Reading, h: Hot, bl: &[u32; PATH_NUMBERS]) -> bool
+    ensures { λ r. ⌜ r ≡ placeTest (openAt (codeOf (now (code .entry)) reading) (h .place)) (waveOf h (now (bl .entry)) .path) ⌝ }
 {
-    let at = open_at(code, registers, place_of(h.place));
+    let at = open_at(code, reading, place_of(h.place));
     let found = at.found;
     let stack = at.stack;
     let depth = stack.depth;

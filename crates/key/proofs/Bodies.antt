@@ -1,7 +1,7 @@
 -- The body of parts: put piece by piece, read again from the buffer it was put into, and copied from there.
 use mathlib.Core.Path.{_≡_, refl, sym, ap, ap₂, _∙_, subst}
 use Prim.Native.Nat.{ℕ, _+_, _*_, _≤_, _<_}
-use mathlib.Core.Bool.{false, and-true}
+use mathlib.Core.Bool.{true, false, and-true}
 use mathlib.Core.List.{List, _∷_, _++_}
 use native.Mathlib.Omega.{arith}
 use borrow.Author.Tests.{le-leb, lt-leb}
@@ -15,10 +15,13 @@ use Rattle.numbers.proofs.Numerals.{small-cons, small-append}
 use Rattle.numbers.proofs.Placing.{placed-front}
 use Rattle.numbers.proofs.Behind.{behind, behind-one}
 use Rattle.body.specs.declared.BodyAnswer.the-variants.{Length, Refused as NoBody}
-use Rattle.body.specs.Body.{Parts, numbersOf, bytesOfBody}
-use Rattle.body.specs.Layout.{fitsLayout, mostDepth, sizeAt, startsBody, bodyAnswer, short, notOfLayout}
-use Rattle.body.proofs.Starts.{fits-of, of-starts, length-says, refused-says}
-use Rattle.body.proofs.Written.{length-twos, length-body, parts-back, size-back}
+use Rattle.body.specs.Body.{Parts, bodyFormat, setBytes, bytesOfBody, sizeAt}
+use Rattle.body.specs.Layout.{kindLists, fitsLayout, mostDepth, starts, startsBody, bodyAnswer, short, notOfLayout}
+use Rattle.body.specs.Places.{kindsPlace}
+use Rattle.body.proofs.Places.{length-body}
+use Rattle.body.proofs.Starts.{fits-of, of-starts}
+use Rattle.body.proofs.Written.{parts-back, size-back}
+use Rattle.body.proofs.Answers.{length-says, refused-says}
 use Rattle.wave.specs.declared.state.State.{State}
 use Rattle.wave.specs.Layout.{blockNumbers, pathNumbers}
 use Rattle.faulting.specs.declared.faults.Faults.{Faults}
@@ -28,7 +31,9 @@ use Rattle.replay.specs.declared.answers.Outcome.{Outcome}
 use Rattle.replay.specs.declared.answers.Replayed.{Replayed}
 use Rattle.key.specs.declared.answer.KeyAnswer.the-variants.{Wrote, Refused}
 use Rattle.key.specs.Key.{partsOf, keyed, bodyKey, outcomeKey, keyOf}
-use Rattle.key.specs.Putting.{room, kindsPlace, kindsEnd, After, after, afterNumbers, kindNumbers, headNumbers, stateNumbers, Put, copied}
+use Rattle.key.specs.Putting.{room, kindsEnd, After, after, afterNumbers, kindNumbers, headNumbers, stateNumbers, numbersOf, Put, copied}
+use Rattle.key.proofs.Numbers.{numbers-bytes, numbers-room}
+use Rattle.key.proofs.Kinding.{length-twos}
 use Rattle.key.proofs.Paths.{block-numbers, length-blocks}
 
 -- ---- put piece by piece
@@ -85,18 +90,20 @@ module _ (kernel : ℕ) (f : Faults) (s : State) where
 
   pub put-stands : (o o₁ o₂ : List ℕ) (at : ℕ) → after at o₁ ≡ afterNumbers (headNumbers kernel (s .hot .place) f) 0 o
       → o₂ ≡ placed o₁ at (bytesOfAll (stateNumbers s)) → o₂ ≡ placed o 0 (bytesOfBody (partsOf kernel f s))
-  unfolding bytesOfBody afterNumbers
+  unfolding afterNumbers
   put-stands o o₁ o₂ at e1 e2 =
       behind (headNumbers kernel (s .hot .place) f) (stateNumbers s) o o₁ o₂ 0 at (ap (λ (z : After). z .place) e1) (ap (λ (z : After). z .out) e1) e2
       ∙ ap (λ (ns : List ℕ). placed o 0 (bytesOfAll ns)) numbers-are
+      ∙ ap (placed o 0) (numbers-bytes (partsOf kernel f s))
 
-  pub put-small : Small (headNumbers kernel (s .hot .place) f) → Small (stateNumbers s) → Small (numbersOf (partsOf kernel f s))
-  put-small h k = subst Small numbers-are (small-append (headNumbers kernel (s .hot .place) f) (stateNumbers s) h k)
+  pub put-room : Small (headNumbers kernel (s .hot .place) f) → Small (stateNumbers s) → bodyFormat setBytes .fits (partsOf kernel f s) ≡ true
+  put-room h k =
+      numbers-room (partsOf kernel f s) (subst Small numbers-are (small-append (headNumbers kernel (s .hot .place) f) (stateNumbers s) h k))
 
 -- there is room for it
 pub body-room : (kernel : ℕ) (f : Faults) (s : State) → s .hot .depth ≤ mostDepth → length (bytesOfBody (partsOf kernel f s)) ≤ room
 unfolding partsOf
-body-room kernel f s low = omega (arith, length-body (partsOf kernel f s), few-listed f, length-blocks s)
+body-room kernel f s low = omega (arith, length-body setBytes (partsOf kernel f s), few-listed f, length-blocks s)
 
 -- a depth over 32 gives no body
 pub deep-key : (kernel : ℕ) (f : Faults) (s : State) (out : List ℕ) → mostDepth < s .hot .depth
@@ -104,7 +111,7 @@ pub deep-key : (kernel : ℕ) (f : Faults) (s : State) (out : List ℕ) → most
 unfolding bodyKey partsOf
 deep-key kernel f s out h =
     let p = partsOf kernel f s in
-    let n : fitsLayout p ≡ false = false-of (fitsLayout p) (λ e. let d = fits-of p e .depth in let l = length-blocks s in omega arith) in
+    let n : fitsLayout p ≡ false = false-of (fitsLayout p) (λ e. let d = fits-of kindLists p e .depth in let l = length-blocks s in omega arith) in
     simp n
 
 -- ---- copied
@@ -144,15 +151,15 @@ module _ (p : Parts) (before now : List ℕ) (h : Put p before now) (fit : lengt
   stands = h .stands ∙ placed-front before (bytesOfBody p) fit
 
   starts-fits : startsBody now ≡ fitsLayout p
-  unfolding startsBody
+  unfolding starts
   starts-fits =
       let t = drop (length (bytesOfBody p)) before in
       let l = length-append (bytesOfBody p) t in
-      rw (stands, parts-back t p (h .small), size-back t p (h .small))
+      rw (stands, parts-back setBytes t p (h .room), size-back setBytes t p (h .room))
       (simp (le-leb (length (bytesOfBody p)) (length (bytesOfBody p ++ t)) (omega arith), and-true))
 
   size-is : sizeAt now ≡ length (bytesOfBody p)
-  size-is = ap sizeAt stands ∙ size-back (drop (length (bytesOfBody p)) before) p (h .small)
+  size-is = ap sizeAt stands ∙ size-back setBytes (drop (length (bytesOfBody p)) before) p (h .room)
 
   front-is : take (sizeAt now) now ≡ bytesOfBody p
   front-is = ap₂ take size-is stands ∙ take-append-seam (bytesOfBody p) (drop (length (bytesOfBody p)) before)

@@ -10,7 +10,7 @@ use lib.ListN.{length}
 use Rattle.ground.specs.Tests.{allOf}
 use Rattle.lanes.specs.Sets.{bit, first, widest}
 use Rattle.lanes.proofs.Bits.{within-first-lt}
-use Rattle.numbers.specs.Numbers.{bound, Small}
+use Rattle.numbers.specs.Numbers.{bound}
 use Rattle.words.specs.Fetching.{instrAt}
 use Rattle.wave.specs.Wave.{stateOf}
 use Rattle.fits.proofs.AtLane.{launched, fits-lanes}
@@ -23,16 +23,16 @@ use Rattle.faulting.specs.Kinds.{lanesOfKind}
 use Rattle.faulting.proofs.KindsApart.{Apart}
 use Rattle.replay.specs.declared.settings.Settings.{Settings}
 use Rattle.replay.specs.Machine.{Machine}
-use Rattle.replay.specs.Replay.{mostWords}
+use Rattle.replay.specs.Replay.{mostWords, readingOf}
 use Rattle.runs.proofs.Keeping.{inside}
 use Rattle.runs.proofs.Stopping.{FaultsAt}
 use Rattle.replay.proofs.FaultKinds.{Faulty, step-faulty, step-apart, Lanes, step-lanes}
 use Rattle.runs.proofs.Returns.{Launchable, lanes-most, InOrder}
-use Rattle.body.specs.Body.{numbersOf}
-use Rattle.body.specs.Layout.{mostDepth, blockFits, fitsLayout}
+use Rattle.body.specs.Body.{bodyFormat, setBytes}
+use Rattle.body.specs.Layout.{mostDepth, kindLists, blockFits, fitsLayout}
 use Rattle.body.proofs.Starts.{of-fits}
 use Rattle.key.specs.Key.{partsOf}
-use Rattle.key.proofs.Bodies.{head-small, state-small, put-small}
+use Rattle.key.proofs.Bodies.{head-small, state-small, put-room}
 use Rattle.key.proofs.Kinding.{small-kinds}
 use Rattle.key.proofs.KindsFit.{kinds-fit}
 use Rattle.key.proofs.BlocksFit.{path-small, all-fit}
@@ -73,15 +73,15 @@ module _ (s : Settings) (code : List ℕ) (l : Launchable s code) (m : Machine) 
       ))
 
   room : length (m .wave .path) ≤ mostDepth
-  room = path-room code (s .registers) (s .lanes) (m .wave) (m .preds) (o .fits)
+  room = path-room code (readingOf s) (s .lanes) (m .wave) (m .preds) (o .fits)
 
   blocks-sized : AllSized (length code) (m .wave .path)
-  blocks-sized = path-sized code (s .registers) (s .lanes) (lanes-most s code l) (m .wave) (m .preds) (o .fits)
+  blocks-sized = path-sized code (readingOf s) (s .lanes) (lanes-most s code l) (m .wave) (m .preds) (o .fits)
 
-  -- every number is below 2^32
-  pub machine-small : kernel < bound → Small (numbersOf (partsOf kernel f (stateOf (m .wave) (m .preds))))
-  machine-small k =
-      put-small kernel f (stateOf (m .wave) (m .preds))
+  -- every number is below 2^32, so that there is room for it
+  pub machine-room : kernel < bound → bodyFormat setBytes .fits (partsOf kernel f (stateOf (m .wave) (m .preds))) ≡ true
+  machine-room k =
+      put-room kernel f (stateOf (m .wave) (m .preds))
       (head-small kernel (m .wave .place) f k (omega (arith, there, few-words))
       (small-kinds f (λ k. active-small (lanesOfKind k f) (lanes k))))
       (state-small (stateOf (m .wave) (m .preds)) room (length-array (m .wave .path) room)
@@ -91,7 +91,7 @@ module _ (s : Settings) (code : List ℕ) (l : Launchable s code) (m : Machine) 
   pub machine-fits : fitsLayout (partsOf kernel f (stateOf (m .wave) (m .preds))) ≡ true
   unfolding partsOf
   machine-fits =
-      of-fits (partsOf kernel f (stateOf (m .wave) (m .preds)))
+      of-fits kindLists (partsOf kernel f (stateOf (m .wave) (m .preds)))
       (record {
         place = omega (arith, there, few-words);
         faults = kinds-fit f faulty none-twice (x .unclear);

@@ -13,12 +13,12 @@ use Rattle.numbers.specs.Placed.{placed}
 use Rattle.numbers.proofs.Numerals.{small-nil, small-cons, small-append}
 use Rattle.numbers.proofs.Placing.{placed-nil}
 use Rattle.numbers.proofs.Behind.{behind, one-number, behind-one}
-use Rattle.body.specs.Body.{twoOf}
 use Rattle.lanes.specs.declared.said.Fault.{Fault}
+use Rattle.body.specs.Places.{kindsPlace}
 use Rattle.faulting.specs.declared.faults.Faults.{Faults}
 use Rattle.faulting.specs.Kinds.{fault, kinds, withLanes, listed, lanesOfKind}
 use Rattle.faulting.proofs.EveryKind.{upFrom, table, every-table}
-use Rattle.key.specs.Putting.{kindsPlace, After, after, afterNumbers, noted, kindNumbers}
+use Rattle.key.specs.Putting.{twoOf, After, after, afterNumbers, noted, kindNumbers}
 
 -- ---- the kinds from k on
 
@@ -70,6 +70,11 @@ count-all f count k c h =
     omega (arith, w)
 
 -- ---- the numbers
+
+pub length-twos : (fs : List Fault) → length (flatMap twoOf fs) ≡ 2 * length fs
+unfolding flatMap twoOf
+length-twos [] = refl
+length-twos (f ∷ fs) = let ih = length-twos fs in omega arith
 
 numbers-test : (t : Bool) (k l : ℕ) (rest : List Fault) → flatMap twoOf (cond t rest (record { kind = k; lanes = l } ∷ rest))
     ≡ cond t [] (k ∷ l ∷ []) ++ flatMap twoOf (rest)

@@ -87,7 +87,7 @@ module _ (lanes : ℕ → ℕ) (away : (k l : ℕ) → (k ≡ l → ⊥) → bit
       (λ e. apart-from (suc n) c)
       (λ e. and-both _ _ (ap not e) (and-both _ _ (from-all n (suc n) c (omega arith)) (apart-from (suc n) c)))
 
-pub kinds-fit : (f : Faults) → Faulty f → Apart f → clear f ≡ false → faultsFit (listed f) ≡ true
+pub kinds-fit : (f : Faults) → Faulty f → Apart f → clear f ≡ false → faultsFit kindLists (listed f) ≡ true
 unfolding faultsFit
 kinds-fit f y a c =
     and-both (oneOf (numbersIn (listed f)) kindLists) (apart (setsIn (listed f))) (faulty-fits f y c)

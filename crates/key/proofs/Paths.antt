@@ -5,13 +5,15 @@ use mathlib.Core.List.{List, [], _∷_, _++_, append-assoc, flatMap, reverse, re
 use native.Mathlib.Omega.{arith}
 use lib.ListN.{length, take, length-reverse}
 use lib.Seq.{take-add}
-use Rattle.body.specs.Body.{sixOf}
 use Rattle.lanes.specs.declared.said.Block.{Block}
 use Rattle.wave.specs.declared.state.State.{State}
-use Rattle.wave.specs.Layout.{blockNumbers, blockAt, opened}
+use Rattle.wave.specs.Layout.{blockNumbers, six, blockAt, opened}
 use Rattle.wave.specs.Wave.{Wave, Preds, stateOf}
 use Rattle.wave.proofs.Laying.{length-opened, opened-laid, drop-six}
 use Rattle.key.specs.Key.{blocksOf}
+
+abbrev sixOf : Block → List ℕ
+sixOf b = six b []
 
 sixes-append : (bs cs : List Block) → flatMap sixOf (bs ++ cs) ≡ flatMap sixOf bs ++ flatMap sixOf cs
 unfolding flatMap
@@ -19,7 +21,7 @@ sixes-append [] cs = refl
 sixes-append (b ∷ bs) cs = ap (λ (l : List ℕ). sixOf b ++ l) (sixes-append bs cs) ∙ sym (append-assoc (sixOf b) (flatMap sixOf bs) (flatMap sixOf cs))
 
 one-six : (b : Block) → flatMap sixOf (b ∷ []) ≡ b .part ∷ b .opener ∷ b .entered ∷ b .aside ∷ b .again ∷ b .left ∷ []
-unfolding flatMap sixOf
+unfolding flatMap
 one-six b = refl
 
 take-block : (xs : List ℕ) (n : ℕ) → blockNumbers * suc n ≤ length xs

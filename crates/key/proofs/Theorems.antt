@@ -11,11 +11,10 @@ use lib.ListN.{length, take, drop}
 use lib.Seq.{take-append-seam}
 use Rattle.ground.proofs.Choices.{cond-by}
 use Rattle.ground.proofs.Tests.{true-or-false}
-use Rattle.numbers.specs.Numbers.{Small}
 use Rattle.numbers.specs.Placed.{placed}
 use Rattle.numbers.proofs.Placing.{placed-front}
-use Rattle.body.specs.Body.{Parts, numbersOf, bytesOfBody}
-use Rattle.body.specs.Layout.{fitsLayout, isBody, short, notOfLayout}
+use Rattle.body.specs.Body.{Parts, bodyFormat, setBytes, bytesOfBody}
+use Rattle.body.specs.Layout.{kindLists, fitsLayout, isBody, short, notOfLayout}
 use Rattle.body.proofs.Written.{one-body, written-body}
 use Rattle.wave.specs.declared.state.State.{State}
 use Rattle.faulting.specs.declared.faults.Faults.{Faults}
@@ -103,9 +102,9 @@ module _ (n q : ℕ) (out : List ℕ) where
   unfolding keyOf
   refused-keeps kernel r e = outcome-keeps kernel (r .outcome) (r .state) e
 
--- THEOREM: what was written, of numbers below 2^32, is a body of the layout
-pub key-is-body : (p : Parts) (n : ℕ) (out : List ℕ) → Small (numbersOf p) → Key p n out → isBody (take n out) ≡ true
-key-is-body p n out h k = written-body (take n out) (record { parts = p; small = h; fits = k .fits; bytes = sym (k .bytes) })
+-- THEOREM: what was written, where each number has room, is a body of the layout
+pub key-is-body : (p : Parts) (n : ℕ) (out : List ℕ) → bodyFormat setBytes .fits p ≡ true → Key p n out → isBody (take n out) ≡ true
+key-is-body p n out h k = written-body kindLists setBytes (take n out) (record { parts = p; room = h; fits = k .fits; bytes = sym (k .bytes) })
 
 -- ---- which keys are equal
 
@@ -134,11 +133,11 @@ module _ (kernel kernel′ : ℕ) (f f′ : Faults) (s s′ : State) where
         blocks = h .blocks i;
       })
 
-  pub key-same : Small (numbersOf (partsOf kernel f s)) → Small (numbersOf (partsOf kernel′ f′ s′))
+  pub key-same : bodyFormat setBytes .fits (partsOf kernel f s) ≡ true → bodyFormat setBytes .fits (partsOf kernel′ f′ s′) ≡ true
       → bytesOfBody (partsOf kernel f s) ≡ bytesOfBody (partsOf kernel′ f′ s′) → Same kernel kernel′ f f′ s s′
   unfolding partsOf
   key-same a b e =
-      let p : partsOf kernel f s ≡ partsOf kernel′ f′ s′ = one-body (partsOf kernel f s) (partsOf kernel′ f′ s′) a b e in
+      let p : partsOf kernel f s ≡ partsOf kernel′ f′ s′ = one-body setBytes (partsOf kernel f s) (partsOf kernel′ f′ s′) a b e in
       record {
         kernel = ap (λ (q : Parts). q .kernel) p;
         place = ap (λ (q : Parts). q .place) p;

@@ -1,14 +1,20 @@
 // Putting a body's numbers into a buffer, one behind another.
+use body::fields::COUNT_PLACE;
+use body::fields::FAULT_BYTES;
+use body::fields::KERNEL_PLACE;
+use body::fields::KINDS_PLACE;
+use body::fields::PLACE_PLACE;
 use faulting::faults::Faults;
 use faulting::faults::KINDS;
 use faulting::faults::lanes_of_kind;
 use lanes::Lanes;
 use numbers::put;
+use numbers::put_words;
 use wave::state::BLOCK_NUMBERS;
 use wave::state::State;
 use wave::state::whole;
 ghost use mathlib.Core.Path.{_≡_};
-ghost use Prim.Native.Nat.{_+_, _*_, _≤_};
+ghost use Prim.Native.Nat.{_≤_};
 ghost use lib.Dec.{eqb};
 ghost use lib.ListN.{length};
 ghost use mathlib.Core.Bool.{cond};
@@ -16,11 +22,9 @@ ghost use Rattle.numbers.specs.Placed.{placed};
 ghost use Rattle.numbers.specs.Numbers.{Small, bytesOfAll};
 ghost use Rattle.faulting.specs.Kinds.{listed};
 ghost use Rattle.body.specs.Layout.{mostDepth};
+ghost use Rattle.body.specs.Places.{kindsPlace};
 ghost use Rattle.key.specs.Key.{partsOf};
-ghost use Rattle.key.specs.Putting.{room, kindsPlace, kindsEnd, after, afterNumbers, noted, kindNumbers, headNumbers, stateNumbers, Put};
-
-// Where the fault kinds stand, behind kernel number, place and count.
-const KINDS_PLACE: usize = 12;
+ghost use Rattle.key.specs.Putting.{room, kindsEnd, after, afterNumbers, noted, kindNumbers, headNumbers, stateNumbers, Put};
 
 // How many kinds these lanes make: one, or none where there are no lanes.
 fn kinds_of(lanes: Lanes) -> u32
@@ -52,7 +56,7 @@ fn put_kind(kind: u32, lanes: Lanes, at: usize, out: &mut [u8]) -> usize
     }
     put(out, at, kind);
     put(out, at + 4, lanes);
-    at + 8
+    at + FAULT_BYTES
 }
 
 // Puts each kind that has lanes, in rising order, into `out` behind their count, and answers the place behind the last.
@@ -68,27 +72,13 @@ fn put_kinds(f: Faults, out: &mut [u8]) -> usize
     at
 }
 
-// Puts numbers into `out` from `at` on.
-fn put_numbers(numbers: &[u32], at: usize, out: &mut [u8])
-    requires { ⌜ at + 4 * length (now numbers) ≤ room ⌝ }
-    ensures { λ _. ⌜ (now (out .exit) ≡ placed (now (out .entry)) at (bytesOfAll (now (numbers .entry)))) × Small (now (numbers .entry)) ⌝ }
-{
-    let mut k: usize = 0;
-    let mut q = at;
-    while k < numbers.len() {
-        put(out, q, numbers[k]);
-        q += 4;
-        k += 1;
-    }
-}
-
 // Puts kernel number, place and fault kinds, with their count, at the front of `out`, and answers the place behind them.
 fn put_head(kernel: u32, place: u32, f: Faults, out: &mut [u8]) -> usize
     ensures { λ r. ⌜ (after r (now (out .exit)) ≡ afterNumbers (headNumbers kernel place f) 0 (now (out .entry))) × Small (headNumbers kernel place f) ⌝ }
 {
-    put(out, 0, kernel);
-    put(out, 4, place);
-    put(out, 8, count_of(f));
+    put(out, KERNEL_PLACE, kernel);
+    put(out, PLACE_PLACE, place);
+    put(out, COUNT_PLACE, count_of(f));
     put_kinds(f, out)
 }
 
@@ -104,7 +94,7 @@ fn put_state(state: State, at: usize, out: &mut [u8])
     put(out, at + 4, hot.halted);
     put(out, at + 8, hot.depth);
     let open = BLOCK_NUMBERS * (hot.depth as usize);
-    put_numbers(&blocks[..open], at + 12, out);
+    put_words(out, at + 12, &blocks[..open]);
 }
 
 // Puts the body of a fault at the front of `out`, as far as it fits.

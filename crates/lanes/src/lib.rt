@@ -11,8 +11,13 @@ ghost use Rattle.lanes.specs.Sets.{widest};
 
 pub type Lanes = u32;
 
-// How many lanes the widest wave has.
+// How many lanes the widest wave has; and the same as a length.
 pub const WIDEST: u32 = 32;
+
+pub const EACH_LANE: usize = WIDEST as usize;
+
+// A number for each lane of the widest wave.
+pub type ByLane = [u32; EACH_LANE];
 
 // Whether `lane` is in `set`. A lane past the widest wave is in no set.
 pub fn has(set: Lanes, lane: u32) -> bool

@@ -1,5 +1,5 @@
 -- The lines of the listing, from what the code reads of a body, and the loops over the records.
-use mathlib.Core.Path.{_≡_, refl, sym, ap, _∙_}
+use mathlib.Core.Path.{_≡_, refl, sym, ap, ap₂, _∙_}
 use Prim.Native.Nat.{ℕ, _+_, _*_, _-_, _≤_, _<_}
 use mathlib.Core.Bool.{true, false, cond}
 use mathlib.Core.List.{List, [], _∷_, _++_, append-assoc, map}
@@ -11,12 +11,13 @@ use lib.Seq.{drop-cons, take-at}
 use mathlib.Core.Logic.{⊎-elim}
 use borrow.Author.Tests.{eq-eqb, ne-eqb, eqb-true, lt-ltb, le-ltb}
 use Rattle.ground.specs.Tests.{allOf}
-use Rattle.numbers.specs.Numbers.{numberAt}
-use Rattle.numbers.specs.Placed.{placed}
-use Rattle.numbers.proofs.Placing.{placed-append, placed-nil, placed-front, length-placed}
+use Rattle.numbers.specs.Placed.{placed, Puts}
+use Rattle.numbers.proofs.Placing.{placed-append, placed-nil, placed-front, length-placed, puts-join, puts-same, puts-kept}
 use Rattle.lanes.specs.declared.said.Fault.{Fault}
-use Rattle.body.specs.Layout.{isBody, partsAt, each, faultAt, countAt, depthAt}
-use Rattle.body.proofs.Starts.{body-starts, fits-count, count-eq, depth-eq}
+use Rattle.body.specs.Body.{setBytes, partsAt}
+use Rattle.body.specs.Layout.{kindLists, isBody}
+use Rattle.body.specs.Places.{noFault}
+use Rattle.body.proofs.Starts.{body-starts, page-count}
 use Rattle.dayfile.specs.Day.{mostRecords}
 use Rattle.ground.proofs.Tests.{true-or-false, all-at}
 use Rattle.dayfile.specs.Read.{countOf, bodiesOf, refusalOf, placeOf, lengthOf, firstsOf, counted, firstsIn}
@@ -24,70 +25,58 @@ use Rattle.dayfile.proofs.Lists.{all-first, all-rest, count-bodies, accepted-li
 use Rattle.dayfile.proofs.Records.{file-room, record-here, length-firsts, count-says, refused-count-says}
 use Rattle.dayfile.specs.declared.answer.CountAnswer.{CountAnswer}
 use Rattle.dayfile.specs.declared.answer.CountAnswer.the-variants.{Count, Refused as NotCounted}
-use Rattle.listing.specs.Decimal.{field, Puts}
+use Rattle.listing.specs.Decimal.{field}
 use Rattle.listing.specs.Text.{mostBytes, textRoom, space, comma, newline, kindsText, line, lines, distinct, totalLine, tableText, textOf}
 use Rattle.listing.specs.Text.{headText, totalText, distinctText, refusedText, longText}
 use Rattle.listing.proofs.Places.{field-long}
-use Rattle.listing.proofs.Putting.{puts-join, puts-same, puts-kept, puts-near}
+use Rattle.listing.proofs.Putting.{puts-near}
 
 -- the kinds of a body
 abbrev kindsOf : List ℕ → List ℕ
 kindsOf b = map (λ (f : Fault). f .kind) (partsAt b .faults)
 
 -- a body has one kind or two
-kinds-two : (b : List ℕ) → isBody b ≡ true → (1 ≤ countAt b) × (countAt b ≤ 2)
-kinds-two b e = let s = body-starts b e in let n = fits-count (partsAt b) (s .0 .fits) in let c = count-eq b in (omega arith, omega arith)
+kinds-two : (b : List ℕ) → isBody b ≡ true → (1 ≤ length (partsAt b .faults)) × (length (partsAt b .faults) ≤ 2)
+kinds-two b e = page-count (partsAt b .faults) (body-starts kindLists setBytes b e .0 .fits .faults)
 
-module _ (b : List ℕ) {c : ℕ} (ec : c ≡ numberAt b 8) where
-  count-is : c ≡ countAt b
-  unfolding countAt
-  count-is = ec
+kinds-one : (fs : List Fault) → length fs ≡ 1 → field (getD fs 0 noFault .kind) space ≡ kindsText (map (λ (f : Fault). f .kind) fs)
+unfolding kindsText
+kinds-one [] h = absurd (omega arith)
+kinds-one (f ∷ []) h = refl
+kinds-one (f ∷ g ∷ fs) h = absurd (omega arith)
 
-  kinds-one : c ≡ 1 → (k : ℕ) → k ≡ numberAt b 12 → field k space ≡ kindsText (kindsOf b)
-  unfolding kindsText partsAt each faultAt
-  kinds-one h k ek = rw (sym count-is ∙ h, ek)
+kinds-both : (fs : List Fault) → length fs ≡ 2
+    → field (getD fs 0 noFault .kind) comma ++ field (getD fs 1 noFault .kind) space ≡ kindsText (map (λ (f : Fault). f .kind) fs)
+unfolding kindsText
+kinds-both [] h = absurd (omega arith)
+kinds-both (f ∷ []) h = absurd (omega arith)
+kinds-both (f ∷ g ∷ []) h = refl
+kinds-both (f ∷ g ∷ h ∷ fs) e = absurd (omega arith)
 
-  kinds-both : isBody b ≡ true → (c ≡ 1 → ⊥) → (k l : ℕ) → k ≡ numberAt b 12 → l ≡ numberAt b 20
-      → field k comma ++ field l space ≡ kindsText (kindsOf b)
-  unfolding kindsText partsAt each faultAt
-  kinds-both e h k l ek el =
+-- c kinds were counted, and f and g are the first two
+module _ (b : List ℕ) {c : ℕ} {f : Fault} (ec : c ≡ length (partsAt b .faults)) (ef : f ≡ getD (partsAt b .faults) 0 noFault) where
+  pub one-kind-puts : {o o1 : List ℕ} {at r : ℕ} → c ≡ 1 → Puts o at (field (f .kind) space) r o1 → Puts o at (kindsText (kindsOf b)) r o1
+  one-kind-puts h = puts-same (ap (λ (x : Fault). field (x .kind) space) ef ∙ kinds-one (partsAt b .faults) (sym ec ∙ h))
+
+  pub two-kinds-puts : {o o1 o2 : List ℕ} {at q r : ℕ} {g : Fault} → isBody b ≡ true → (c ≡ 1 → ⊥) → g ≡ getD (partsAt b .faults) 1 noFault
+      → Puts o at (field (f .kind) comma) q o1 → Puts o1 q (field (g .kind) space) r o2 → Puts o at (kindsText (kindsOf b)) r o2
+  two-kinds-puts e h eg one two =
       let t = kinds-two b e in
-      let n = count-is in
-      let z : countAt b ≡ 2 = omega arith in
-      rw (z, ek, el)
-
-  pub one-kind-puts : {o o1 : List ℕ} {at r k : ℕ} → c ≡ 1 → k ≡ numberAt b 12
-      → Puts o at (field k space) r o1 → Puts o at (kindsText (kindsOf b)) r o1
-  one-kind-puts {k = k} h ek = puts-same (kinds-one h k ek)
-
-  pub two-kinds-puts : {o o1 o2 : List ℕ} {at q r k l : ℕ} → isBody b ≡ true → (c ≡ 1 → ⊥) → k ≡ numberAt b 12 → l ≡ numberAt b 20
-      → Puts o at (field k comma) q o1 → Puts o1 q (field l space) r o2 → Puts o at (kindsText (kindsOf b)) r o2
-  two-kinds-puts {k = k} {l = l} e h ek el one two = puts-same (kinds-both e h k l ek el) (puts-join one two)
-
-depth-is : (b : List ℕ) (c d : ℕ) → c ≡ numberAt b 8 → d ≡ numberAt b (20 + 8 * c) → d ≡ length (partsAt b .blocks)
-unfolding depthAt countAt
-depth-is b c d ec ed = ed ∙ ap (λ (k : ℕ). numberAt b (20 + 8 * k)) ec ∙ sym (depth-eq b)
-
-kernel-is : (b : List ℕ) (k : ℕ) → k ≡ numberAt b 0 → k ≡ partsAt b .kernel
-unfolding partsAt
-kernel-is b k e = e
-
-place-is : (b : List ℕ) (k : ℕ) → k ≡ numberAt b 4 → k ≡ partsAt b .place
-unfolding partsAt
-place-is b k e = e
+      let n : length (partsAt b .faults) ≡ 2 = omega arith in
+      puts-same (ap₂ (λ (x y : Fault). field (x .kind) comma ++ field (y .kind) space) ef eg ∙ kinds-both (partsAt b .faults) n) (puts-join one two)
 
 regroup : (a b c d e : List ℕ) → (a ++ b) ++ ((c ++ d) ++ e) ≡ a ++ (b ++ (c ++ (d ++ e)))
 regroup a b c d e = simp append-assoc
 
-pub line-puts : {o o1 o2 o3 o4 : List ℕ} {at q1 q2 q3 r kernel place c d : ℕ} (i first : ℕ) (b : List ℕ)
-    → kernel ≡ numberAt b 0 → place ≡ numberAt b 4 → c ≡ numberAt b 8 → d ≡ numberAt b (20 + 8 * c)
+pub line-puts : {o o1 o2 o3 o4 : List ℕ} {at q1 q2 q3 r kernel place d : ℕ} (i first : ℕ) (b : List ℕ)
+    → kernel ≡ partsAt b .kernel → place ≡ partsAt b .place → d ≡ length (partsAt b .blocks)
     → Puts o at (field i space ++ field first space) q1 o1 → Puts o1 q1 (field kernel space ++ field place space) q2 o2
     → Puts o2 q2 (kindsText (kindsOf b)) q3 o3 → Puts o3 q3 (field d newline) r o4 → Puts o at (line i first (partsAt b)) r o4
 unfolding line
-line-puts {kernel = kernel} {place = place} {c = c} {d = d} i first b ek ep ec ed one two kinds last =
+line-puts {kernel = kernel} {place = place} {d = d} i first b ek ep ed one two kinds last =
     let rest = kindsText (kindsOf b) ++ field d newline in
     let e = regroup (field i space) (field first space) (field kernel space) (field place space) rest in
-    puts-same (e ∙ rw (kernel-is b kernel ek, place-is b place ep, depth-is b c d ec ed)) (puts-join one (puts-join two (puts-join kinds last)))
+    puts-same (e ∙ rw (ek, ep, ed)) (puts-join one (puts-join two (puts-join kinds last)))
 
 -- ---- how long the text is
 
@@ -104,7 +93,6 @@ kinds-long (k ∷ l ∷ ks) =
 kinds-short : (b : List ℕ) → isBody b ≡ true → length (kindsText (kindsOf b)) ≤ 42
 kinds-short b e =
     let n = kinds-two b e in
-    let c = count-eq b in
     let m : length (kindsOf b) ≡ length (partsAt b .faults) = length-map (partsAt b .faults) (λ (f : Fault). f .kind) in
     let h = kinds-long (kindsOf b) in
     omega arith

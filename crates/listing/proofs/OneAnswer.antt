@@ -2,7 +2,7 @@
 use mathlib.Core.Path.{_≡_, sym, _∙_}
 use Prim.Native.Nat.{ℕ}
 use mathlib.Core.List.{List}
-use Rattle.listing.specs.Decimal.{Puts}
+use Rattle.numbers.specs.Placed.{Puts}
 use Rattle.listing.specs.Text.{textOf}
 
 pub list-once : (file out x y : List ℕ) (r q : ℕ) → Puts out 0 (textOf file) r x → Puts out 0 (textOf file) q y → (r ≡ q) × (x ≡ y)

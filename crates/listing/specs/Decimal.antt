@@ -1,12 +1,9 @@
--- Numbers as text, and text put into a buffer.
-use mathlib.Core.Path.{_≡_}
+-- Numbers as text.
 use Prim.Native.Nat.{ℕ, zero, suc, _+_, _/_}
 use mathlib.Core.Bool.{cond}
 use mathlib.Core.List.{List, [], _∷_, _++_}
 use lib.Dec.{ltb}
-use lib.ListN.{length}
 use Rattle.io.specs.Digits.{digits}
-use Rattle.numbers.specs.Placed.{placed}
 
 -- how many decimal digits n has, at most `most`
 unfoldable pub places : ℕ → ℕ → ℕ
@@ -23,8 +20,3 @@ decimal n = digits 10 (places mostPlaces n) n
 -- a number, and the character that ends it
 unfoldable pub field : ℕ → ℕ → List ℕ
 field n end = decimal n ++ (end ∷ [])
-
--- text was put into out from `at` on, and `next` is the place behind it
-pub record Puts (out : List ℕ) (at : ℕ) (text : List ℕ) (next : ℕ) (after : List ℕ) : Type 0 where
-  pub place : next ≡ at + length text
-  pub holds : after ≡ placed out at text

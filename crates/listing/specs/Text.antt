@@ -5,8 +5,7 @@ use mathlib.Core.List.{List, [], _∷_, _++_, map}
 use lib.Dec.{ltb, eqb}
 use lib.ListN.{length}
 use Rattle.lanes.specs.declared.said.Fault.{Fault}
-use Rattle.body.specs.Body.{Parts}
-use Rattle.body.specs.Layout.{partsAt}
+use Rattle.body.specs.Body.{Parts, partsAt}
 use Rattle.dayfile.specs.Read.{bodiesOf, refusalOf, firstsOf}
 use Rattle.listing.specs.Decimal.{field}
 

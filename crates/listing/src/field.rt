@@ -2,7 +2,8 @@
 ghost use Prim.Native.Nat.{_+_, _≤_};
 ghost use mathlib.Core.List.{_++_};
 ghost use lib.ListN.{length};
-ghost use Rattle.listing.specs.Decimal.{field, Puts};
+ghost use Rattle.numbers.specs.Placed.{Puts};
+ghost use Rattle.listing.specs.Decimal.{field};
 ghost use Rattle.listing.specs.Text.{space, textRoom};
 
 // Puts text at `at`.

@@ -9,7 +9,8 @@ use field::put_field;
 use field::put_text;
 use table::put_table;
 ghost use mathlib.Core.List.{_++_};
-ghost use Rattle.listing.specs.Decimal.{field, Puts};
+ghost use Rattle.numbers.specs.Placed.{Puts};
+ghost use Rattle.listing.specs.Decimal.{field};
 ghost use Rattle.listing.specs.Text.{newline, refusedText, textOf};
 
 // The largest file that is listed.

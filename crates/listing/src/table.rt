@@ -2,6 +2,11 @@
 use crate::field::put_field;
 use crate::field::put_text;
 use crate::field::put_two;
+use body::fields::count;
+use body::fields::depth;
+use body::fields::fault;
+use body::fields::kernel;
+use body::fields::place;
 use numbers::get;
 ghost use mathlib.Core.Path.{_≡_};
 ghost use mathlib.Core.Bool.{true};
@@ -9,10 +14,10 @@ ghost use mathlib.Core.List.{map};
 ghost use Prim.Native.Nat.{_+_, _*_, _≤_, _<_};
 ghost use lib.ListN.{length};
 ghost use Rattle.lanes.specs.declared.said.Fault.{Fault};
-ghost use Rattle.body.specs.Body.{Parts};
-ghost use Rattle.body.specs.Layout.{partsAt, isBody};
+ghost use Rattle.body.specs.Body.{Parts, partsAt};
+ghost use Rattle.body.specs.Layout.{isBody};
 ghost use Rattle.dayfile.specs.Read.{bodiesOf, refusalOf, firstsOf};
-ghost use Rattle.listing.specs.Decimal.{Puts};
+ghost use Rattle.numbers.specs.Placed.{Puts};
 ghost use Rattle.listing.specs.Text.{textRoom, kindsText, line, lines, distinct, totalLine, tableText};
 
 // Puts the kinds of a body's fault, a comma between two.
@@ -20,13 +25,14 @@ fn put_kinds(out: &mut [u8], at: usize, body: &[u8]) -> usize
     requires { ⌜ (isBody (now body) ≡ true) × (at + 42 ≤ textRoom) ⌝ }
     ensures { λ r. ⌜ Puts (now (out .entry)) at (kindsText (map (λ (f : Fault). f .kind) (partsAt (now (body .entry)) .faults))) r (now (out .exit)) ⌝ }
 {
-    let count = get(body, 8);
-    let first = get(body, 12) as u64;
-    if count == 1 {
-        return put_field(out, at, first, b' ');
+    let kinds = count(body);
+    let first = fault(body, 0);
+    if kinds == 1 {
+        return put_field(out, at, first.kind as u64, b' ');
     }
-    let q = put_field(out, at, first, b',');
-    put_field(out, q, get(body, 20) as u64, b' ')
+    let second = fault(body, 1);
+    let q = put_field(out, at, first.kind as u64, b',');
+    put_field(out, q, second.kind as u64, b' ')
 }
 
 // Puts the line of record i, whose body is given.
@@ -34,14 +40,10 @@ fn put_line(out: &mut [u8], at: usize, i: usize, first: u32, body: &[u8]) -> usi
     requires { ⌜ (isBody (now body) ≡ true) × (at + 147 ≤ textRoom) ⌝ }
     ensures { λ r. ⌜ Puts (now (out .entry)) at (line i first (partsAt (now (body .entry)))) r (now (out .exit)) ⌝ }
 {
-    let kernel = get(body, 0) as u64;
-    let place = get(body, 4) as u64;
-    let count = get(body, 8) as usize;
-    let depth = get(body, 20 + 8 * count) as u64;
     let q1 = put_two(out, at, i as u64, first as u64);
-    let q2 = put_two(out, q1, kernel, place);
+    let q2 = put_two(out, q1, kernel(body) as u64, place(body) as u64);
     let q3 = put_kinds(out, q2, body);
-    put_field(out, q3, depth, b'\n')
+    put_field(out, q3, depth(body) as u64, b'\n')
 }
 
 // Puts the lines of an accepted file's records.

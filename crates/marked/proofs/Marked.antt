@@ -38,8 +38,9 @@ use Rattle.numbers.specs.Numbers.{bytesOf, bytesOfAll}
 use Rattle.numbers.proofs.Placing.{placed-front}
 use Rattle.lanes.specs.declared.said.Block.{Block}
 use Rattle.lanes.specs.declared.said.Fault.{Fault}
-use Rattle.body.specs.Body.{Parts, twoOf, sixOf, numbersOf, bytesOfBody}
-use Rattle.body.specs.Layout.{kindLists, apart, faultsFit, blockFits, fitsLayout}
+use Rattle.formats.specs.Format.{bytesIn, number, both, counted, seenAs}
+use Rattle.body.specs.Body.{Parts, faultFormat, blockFormat, bodyFormat, bytesOfBody}
+use Rattle.body.specs.Layout.{kindLists, apart, faultsFit, blockFits, ofLayout, fitsLayout}
 use Rattle.key.specs.Key.{blocksOf, partsOf, bodyKey, outcomeKey, keyOf}
 use Rattle.marked.specs.Table.{Answer, ended, faulted, least, Open, settings, written, launched, launching, Gives, Each, all, _&_, t12, t13, t14, table}
 
@@ -100,7 +101,7 @@ other-outcome : _≡_ {A = ℕ} 0 1 → ⊥
 other-outcome e = omega arith
 
 -- the table's launches pass the tests, with W 8 and R 2
-lawful : (n : ℕ) (words : List ℕ) → leb 1 n ≡ true → leb n 8 ≡ true → leb (length words) mostWords ≡ true → checkOf (codeOf words 2) ≡ Fine
+lawful : (n : ℕ) (words : List ℕ) → leb 1 n ≡ true → leb n 8 ≡ true → leb (length words) mostWords ≡ true → checkOf (codeOf words (record { registers = 2 })) ≡ Fine
     → (b : ℕ) → Launchable (settings 8 n 2 b) words
 lawful n words some few short checked b =
     record {
@@ -123,17 +124,22 @@ broken = record { part = 3; opener = 5; entered = 7; aside = 2; again = 0; left 
 
 layout : (fitsLayout (parts 1 3 []) ≡ true) × (length (bytesOfBody (parts 1 3 [])) ≡ 32) × (fitsLayout (parts 7 5 broken) ≡ true)
     × (length (bytesOfBody (parts 7 5 broken)) ≡ 56)
-unfolding fitsLayout faultsFit blockFits kindLists apart sameList oneOf allOf flatMap twoOf sixOf numbersOf bytesOf bytesOfAll bytesOfBody
+unfolding ofLayout faultsFit blockFits kindLists apart sameList oneOf allOf flatMap bytesIn number both counted seenAs faultFormat blockFormat bodyFormat
 layout = (refl, refl, refl, refl)
+
+bodies : (bytesOfBody (parts 1 3 []) ≡ bytesOfAll (7 ∷ 1 ∷ 1 ∷ 4 ∷ 1 ∷ 3 ∷ 0 ∷ 0 ∷ []))
+    × (bytesOfBody (parts 7 5 broken) ≡ bytesOfAll (7 ∷ 7 ∷ 1 ∷ 4 ∷ 1 ∷ 5 ∷ 0 ∷ 1 ∷ 3 ∷ 5 ∷ 7 ∷ 2 ∷ 0 ∷ 0 ∷ []))
+unfolding flatMap bytesOf bytesOfAll bytesIn number both counted seenAs faultFormat blockFormat bodyFormat
+bodies = (refl, refl)
 
 -- THE MARKED TABLE
 pub marked : Each table
-unfolding flatMap tabulate inOrder bit has without first only setOf instrAt itemAt blocks.in-loop blocks.react blocks.ended blocks.step blocks.scan blocks.run control.controlRule control.faultLanes slot byLane gatherOf writeLanes changesOf resultsOf predicateOf faultLanes faultsOf afterOf carriedOf stepOf runOf twoOf sixOf numbersOf bytesOfBody blocksOf partsOf outcomeKey keyOf
+unfolding flatMap tabulate inOrder bit has without first only setOf instrAt itemAt blocks.in-loop blocks.react blocks.ended blocks.step blocks.scan blocks.run control.controlRule control.faultLanes slot byLane gatherOf writeLanes changesOf resultsOf predicateOf faultLanes faultsOf afterOf carriedOf stepOf runOf blocksOf partsOf outcomeKey keyOf
 marked =
     refl & refl & refl & refl & refl & refl & refl & refl & refl & refl & refl & refl & refl
     & gives 8 4 2 t12 (ended 9 (7 ∷ 8 ∷ 2 ∷ 2 ∷ []) 12) (lawful 4 t12 refl refl refl refl) (λ o e. other-outcome cc) (λ o. refl)
     & gives 8 2 2 t13 _ (lawful 2 t13 refl refl refl refl) (λ o e. other-outcome cc)
-    (λ o. ap (faulted 1) (key-bytes (parts 1 3 []) (o .room) (layout .0) (omega (arith, layout .1, o .roomy))))
+    (λ o. ap (faulted 1) (key-bytes (parts 1 3 []) (o .room) (layout .0) (omega (arith, layout .1, o .roomy)) ∙ bodies .0))
     & gives 8 3 2 t14 _ (lawful 3 t14 refl refl refl refl) (λ o e. other-outcome cc)
-    (λ o. ap (faulted 5) (key-bytes (parts 7 5 broken) (o .room) (layout .2) (omega (arith, layout .3, o .roomy))))
+    (λ o. ap (faulted 5) (key-bytes (parts 7 5 broken) (o .room) (layout .2) (omega (arith, layout .3, o .roomy)) ∙ bodies .1))
     & all

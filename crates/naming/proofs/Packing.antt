@@ -12,9 +12,9 @@ use lib.Seq.{drop-cons}
 use borrow.Author.Tests.{ne-eqb, leb-true, ltb-true}
 use Rattle.ground.specs.Tests.{allOf}
 use Rattle.ground.proofs.Bools.{and-left, and-right}
-use Rattle.numbers.specs.Placed.{placed}
+use Rattle.numbers.specs.Placed.{placed, Puts}
 use Rattle.numbers.proofs.Placing.{placed-append, placed-nil, length-placed}
-use Rattle.naming.specs.Pieces.{packed, unpacked, joined, Puts}
+use Rattle.naming.specs.Pieces.{packed, unpacked, joined}
 
 -- ---- one piece
 
@@ -90,19 +90,6 @@ module _ {o : List ℕ} {at piece : ℕ} {out : List ℕ} {q left room : ℕ} (l
   left-full h = let e : room ≡ 0 = omega arith in left-none (ap (λ (k : ℕ). unpacked k left) e)
 
 -- ---- pieces
-
-pub puts-join : {o o1 o2 A B : List ℕ} {at q r : ℕ} → Puts o at A q o1 → Puts o1 q B r o2 → Puts o at (A ++ B) r o2
-puts-join {o} {o1} {o2} {A} {B} {at} {q} {r} a b =
-    let ea = a .place in
-    let eb = b .place in
-    let l = length-append A B in
-    record {
-      place = omega arith;
-      holds = b .holds ∙ ap (λ (x : List ℕ). placed x q B) (a .holds) ∙ ap (λ (k : ℕ). placed (placed o at A) k B) ea ∙ sym (placed-append A B o at);
-    }
-
-pub puts-same : {o o1 A B : List ℕ} {at r : ℕ} → A ≡ B → Puts o at A r o1 → Puts o at B r o1
-puts-same {o} {o1} {A} {B} {at} {r} e a = rw e at a
 
 pub joined-few : (ps : List ℕ) → length (joined ps) ≤ 8 * length ps
 unfolding joined

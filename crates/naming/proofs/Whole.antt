@@ -11,16 +11,15 @@ use borrow.Author.Tests.{le-leb, lt-leb}
 use Rattle.refusals.specs.Table.{Rule}
 use Rattle.instructions.specs.declared.instr.Instr.{Instr}
 use Rattle.instructions.specs.Forms.{valid}
-use Rattle.numbers.specs.Placed.{placed}
-use Rattle.numbers.proofs.Placing.{placed-front}
+use Rattle.numbers.specs.Placed.{placed, Puts}
+use Rattle.numbers.proofs.Placing.{placed-front, puts-join, puts-same}
 use Rattle.naming.specs.declared.TextAnswer.{TextAnswer}
 use Rattle.naming.specs.declared.operands.Fields.{Fields}
-use Rattle.naming.specs.Pieces.{joined, Puts, nameParts, Shown, arranged}
+use Rattle.naming.specs.Pieces.{joined, nameParts, Shown, arranged}
 use Rattle.naming.specs.Templates.{template}
 use Rattle.naming.specs.Text.{tailText, textOf, textRoom}
 use Rattle.naming.specs.Writing.{written, unwritten, putIn, textIn}
 use Rattle.naming.proofs.Room.{text-room}
-use Rattle.naming.proofs.Packing.{puts-join, puts-same}
 use Rattle.naming.proofs.Pieced.{name-whole, operands-then, arranged-whole}
 
 -- the name, the operands and what follows them, put one behind the other

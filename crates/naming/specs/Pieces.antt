@@ -6,10 +6,9 @@ use mathlib.Core.Path.{_≡_}
 use mathlib.Core.Bool.{cond}
 use mathlib.Core.List.{List, [], _∷_, _++_}
 use lib.Dec.{eqb}
-use lib.ListN.{length, getD}
+use lib.ListN.{getD}
 use Rattle.instructions.specs.declared.instr.Op.{Op}
 use Rattle.instructions.specs.declared.instr.Instr.{Instr}
-use Rattle.numbers.specs.Placed.{placed}
 use Rattle.naming.specs.declared.operands.Fields.{Fields}
 use Rattle.naming.specs.Bytes.{ascii}
 use Rattle.naming.specs.Numerals.{numeral}
@@ -33,11 +32,6 @@ joined (p ∷ ps) = unpacked 8 p ++ joined ps
 -- the most bytes of a line's fifteen pieces
 abbrev pub piecesRoom : ℕ
 piecesRoom = 120
-
--- text was put into out from `at` on, and `next` is the place behind it
-pub record Puts (out : List ℕ) (at : ℕ) (text : List ℕ) (next : ℕ) (after : List ℕ) : Type 0 where
-  pub place : next ≡ at + length text
-  pub holds : after ≡ placed out at text
 
 -- ---- the pieces of a name
 

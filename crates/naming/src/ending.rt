@@ -6,7 +6,8 @@ ghost use mathlib.Core.Path.{_≡_};
 ghost use mathlib.Core.Bool.{cond};
 ghost use Prim.Native.Nat.{_+_, _≤_};
 ghost use Rattle.naming.specs.Bytes.{ascii};
-ghost use Rattle.naming.specs.Pieces.{packed, joined, piecesRoom, Puts};
+ghost use Rattle.numbers.specs.Placed.{Puts};
+ghost use Rattle.naming.specs.Pieces.{packed, joined, piecesRoom};
 ghost use Rattle.naming.specs.Text.{scopeText, onText, tailText};
 
 // ` scope `, and ` p`.

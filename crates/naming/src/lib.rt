@@ -17,7 +17,7 @@ use refusals::NO_WORDS;
 use refusals::Refusal;
 use refusals::SHORT;
 ghost use mathlib.Core.Path.{_≡_};
-ghost use Rattle.naming.specs.Pieces.{Puts};
+ghost use Rattle.numbers.specs.Placed.{Puts};
 ghost use Rattle.naming.specs.Text.{textOf};
 ghost use Rattle.naming.specs.Writing.{written, putIn, textIn};
 

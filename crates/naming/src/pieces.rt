@@ -2,7 +2,8 @@
 use numbers::put_bytes;
 ghost use Prim.Native.Nat.{_+_, _*_, _≤_};
 ghost use lib.ListN.{length};
-ghost use Rattle.naming.specs.Pieces.{unpacked, joined, piecesRoom, Puts};
+ghost use Rattle.numbers.specs.Placed.{Puts};
+ghost use Rattle.naming.specs.Pieces.{unpacked, joined, piecesRoom};
 
 // The most bytes of a piece.
 const PIECE: usize = 8;

@@ -6,6 +6,7 @@ use lib.Dec.{eqb, leb}
 use lib.ListN.{length, replicate}
 use Rattle.refusals.specs.declared.Refusal.{Refusal}
 use Rattle.refusals.specs.Table.{Rule, broken}
+use Rattle.blocks.specs.declared.item.Reading.{Reading}
 use Rattle.blocks.specs.declared.structure.Checked.{Checked}
 use Rattle.blocks.specs.Code.{codeOf}
 use Rattle.blocks.specs.Scan.{checkOf}
@@ -40,6 +41,10 @@ settingsRight s =
     && leb (s .lanes) (s .width)
     && leb (s .budget) mostSteps
 
+-- what the code is checked for
+abbrev pub readingOf : Settings → Reading
+readingOf s = record { registers = s .registers }
+
 -- ---- the tests, in their order: the first rule broken is the refusal
 abbrev pub thenTest : Checked → Checked → Checked
 thenTest Checked.Fine next = next
@@ -62,11 +67,11 @@ boundsTest s code regs = thenTest (settingTest s) (thenTest (lengthTest code) (b
 
 -- then instruction by instruction 4 to 9, then 10
 abbrev pub launchTest : Settings → List ℕ → List ℕ → Checked
-launchTest s code regs = thenTest (boundsTest s code regs) (checkOf (codeOf code (s .registers)))
+launchTest s code regs = thenTest (boundsTest s code regs) (checkOf (codeOf code (readingOf s)))
 
 -- then 11: the state doesn't fit
 abbrev pub stateTest : Settings → State → List ℕ → Checked
-stateTest s state code = refusedUnless (fitsTest code (s .registers) (s .lanes) (state .hot) (state .blocks)) (broken Rule.state 0)
+stateTest s state code = refusedUnless (fitsTest code (readingOf s) (s .lanes) (state .hot) (state .blocks)) (broken Rule.state 0)
 
 abbrev pub resumeTest : Settings → State → List ℕ → List ℕ → Checked
 resumeTest s state code regs = thenTest (launchTest s code regs) (stateTest s state code)

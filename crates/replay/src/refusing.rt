@@ -1,5 +1,6 @@
 // The refusals of a run, in their order.
 use crate::settings::Settings;
+use blocks::item::Reading;
 use blocks::structure::Checked;
 use blocks::structure::check;
 use fits::fits;
@@ -12,7 +13,7 @@ use wave::state::State;
 ghost use mathlib.Core.Path.{_≡_};
 ghost use lib.ListN.{length};
 ghost use Prim.Native.Nat.{_*_};
-ghost use Rattle.replay.specs.Replay.{settingsRight, refusedUnless, thenTest, boundsTest, launchTest, resumeTest};
+ghost use Rattle.replay.specs.Replay.{settingsRight, readingOf, refusedUnless, thenTest, boundsTest, launchTest, resumeTest};
 
 // What the page allows at most.
 pub const MOST_REGISTERS: u32 = 256;
@@ -31,6 +32,15 @@ fn settings_right(s: Settings) -> bool
         & (1 <= s.lanes)
         & (s.lanes <= s.width)
         & (s.budget <= MOST_STEPS)
+}
+
+// What the code is checked for.
+fn reading_of(s: Settings) -> Reading
+    ensures { λ r. ⌜ r ≡ readingOf s ⌝ }
+{
+    Reading {
+        registers: s.registers,
+    }
 }
 
 // Fine, or the refusal `number` at place 0.
@@ -72,7 +82,7 @@ pub(crate) fn test_launch(s: Settings, code: &[u32], regs: &[u32]) -> Checked
     let bounds = test_bounds(s, code, regs);
     match bounds {
         Checked::Refused(refusal) => Checked::Refused(refusal),
-        Checked::Fine => check(code, s.registers),
+        Checked::Fine => check(code, reading_of(s)),
     }
 }
 
@@ -86,7 +96,7 @@ pub(crate) fn test_resume(s: Settings, state: State, code: &[u32], regs: &[u32])
         Checked::Fine => {
             let hot = state.hot;
             let path = state.blocks;
-            refuse_unless(fits(code, s.registers, s.lanes, hot, &path), STATE)
+            refuse_unless(fits(code, reading_of(s), s.lanes, hot, &path), STATE)
         }
     }
 }

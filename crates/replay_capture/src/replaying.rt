@@ -6,6 +6,7 @@ use crate::report::put_key;
 use crate::report::put_report;
 use crate::running::run;
 use crate::text::write_front;
+use body::LONGEST;
 use captures::answer::Counts;
 use captures::answer::Head;
 use key::answer::KeyAnswer;
@@ -17,9 +18,7 @@ use replay::settings::Settings;
 ghost use mathlib.Core.Path.{_≡_};
 ghost use Prim.Native.Nat.{min};
 
-// The bytes of the longest body, and more than those of the longest report.
-const BODY_ROOM: usize = 808;
-
+// More than the bytes of the longest report.
 const REPORT_ROOM: usize = 8192;
 
 // Writes the first n bytes of a report to standard output.
@@ -47,11 +46,11 @@ fn tell_end(answer: Replayed, code: &[u32]) {
 
 // Tells of what a replay answered; only a fault has a key.
 fn tell(kernel: u32, answer: Replayed, code: &[u32]) {
-    let mut body = [0u8; BODY_ROOM];
+    let mut body = [0u8; LONGEST];
     let written = write_key(kernel, answer, &mut body);
     match written {
         KeyAnswer::Wrote(n) => {
-            if n <= BODY_ROOM {
+            if n <= LONGEST {
                 tell_fault(answer, code, &body[..n]);
             }
         }

@@ -30,7 +30,7 @@ use Rattle.fits.proofs.Fitting.{fits-test}
 use Rattle.fits.proofs.Opens.{state-fits-if}
 use Rattle.replay.specs.declared.settings.Settings.{Settings}
 use Rattle.replay.specs.declared.answers.Outcome.the-variants.{Refused}
-use Rattle.replay.specs.Replay.{mostWords, settingsRight, thenTest, refusedUnless, boundsTest, launchTest, resumeTest, launchOf, resumeOf}
+use Rattle.replay.specs.Replay.{mostWords, settingsRight, readingOf, thenTest, refusedUnless, boundsTest, launchTest, resumeTest, launchOf, resumeOf}
 use Rattle.runs.specs.Refusals.{Bounded, BoundsBreak, setting, code-length, buffer-length}
 use Rattle.runs.specs.Refusals.{LaunchBreaks, in-bounds, in-code, ResumeBreaks, in-launch, in-state}
 use Rattle.runs.proofs.Allowing.{allowed-right, right-allowed, allowed-narrow}
@@ -84,27 +84,27 @@ module _ (s : Settings) (code regs : List ℕ) where
   -- ---- then 4 to 10
 
   abbrev kernel : Code
-  kernel = codeOf code (s .registers)
+  kernel = codeOf code (readingOf s)
 
   launch-tested : (r : Refusal) (v : Checked) → boundsTest s code regs ≡ v → thenTest v (checkOf kernel) ≡ Checked.Refused r → LaunchBreaks s code regs r
-  launch-tested r Checked.Fine ev e = in-code (bounded-if .0 ev) (refused-if code (s .registers) r .0 e)
+  launch-tested r Checked.Fine ev e = in-code (bounded-if .0 ev) (refused-if code (readingOf s) r .0 e)
   launch-tested r (Checked.Refused q) ev e = in-bounds (bounds-if r .0 (ev ∙ e))
 
   launch-broken : (r : Refusal) → LaunchBreaks s code regs r → launchTest s code regs ≡ Checked.Refused r
   launch-broken r (in-bounds b) = rw (bounds-if r .1 b) refl
-  launch-broken r (in-code b x) = ap (λ (v : Checked). thenTest v (checkOf kernel)) (bounded-if .1 b) ∙ refused-if code (s .registers) r .1 x
+  launch-broken r (in-code b x) = ap (λ (v : Checked). thenTest v (checkOf kernel)) (bounded-if .1 b) ∙ refused-if code (readingOf s) r .1 x
 
   launch-if : (r : Refusal) → (launchTest s code regs ≡ Checked.Refused r) ↔ LaunchBreaks s code regs r
   launch-if r = (launch-tested r (boundsTest s code regs) refl, launch-broken r)
 
   -- its tests pass exactly if all is in bounds and the blocks nest
-  pub launch-passes : (launchTest s code regs ≡ Fine) ↔ (Bounded s code regs × Nested code (s .registers))
+  pub launch-passes : (launchTest s code regs ≡ Fine) ↔ (Bounded s code regs × Nested code (readingOf s))
   launch-passes = (
     λ e. (
       bounded-if .0 (then-first (boundsTest s code regs) (checkOf kernel) e),
-      passes-if code (s .registers) .0 (then-second (boundsTest s code regs) (checkOf kernel) e),
+      passes-if code (readingOf s) .0 (then-second (boundsTest s code regs) (checkOf kernel) e),
     ),
-    λ h. ap (λ (v : Checked). thenTest v (checkOf kernel)) (bounded-if .1 (h .0)) ∙ passes-if code (s .registers) .1 (h .1),
+    λ h. ap (λ (v : Checked). thenTest v (checkOf kernel)) (bounded-if .1 (h .0)) ∙ passes-if code (readingOf s) .1 (h .1),
   )
 
   -- A LAUNCH is refused exactly by the first rule that it breaks
@@ -118,17 +118,17 @@ module _ (s : Settings) (code regs : List ℕ) where
 
   module _ (state : State) where
     abbrev fit : Bool
-    fit = fitsTest code (s .registers) (s .lanes) (state .hot) (state .blocks)
+    fit = fitsTest code (readingOf s) (s .lanes) (state .hot) (state .blocks)
 
-    fit-if : (fit ≡ true) ↔ wave.Fits code (s .registers) (s .lanes) (state .hot) (state .blocks)
-    fit-if = fits-test code (s .registers) (s .lanes) (state .hot) (state .blocks)
+    fit-if : (fit ≡ true) ↔ wave.Fits code (readingOf s) (s .lanes) (state .hot) (state .blocks)
+    fit-if = fits-test code (readingOf s) (s .lanes) (state .hot) (state .blocks)
 
     -- in bounds, for code whose blocks nest, the test is true exactly of the states that fit
-    pub state-fit-if : Bounded s code regs → Nested code (s .registers)
-        → (fit ≡ true) ↔ StateFits code (s .registers) (s .lanes) (state .hot) (state .blocks)
+    pub state-fit-if : Bounded s code regs → Nested code (readingOf s)
+        → (fit ≡ true) ↔ StateFits code (readingOf s) (s .lanes) (state .hot) (state .blocks)
     state-fit-if b w =
         let wide : s .lanes ≤ widest = omega (arith, b .allowed .lanes .1, allowed-narrow s (b .allowed)) in
-        let t = state-fits-if code (s .registers) (s .lanes) w wide (state .hot) (state .blocks) in
+        let t = state-fits-if code (readingOf s) (s .lanes) w wide (state .hot) (state .blocks) in
         (λ e. t .0 (fit-if .0 e), λ f. fit-if .1 (t .1 f))
 
     -- whether the state fits, by what the test told
@@ -150,7 +150,7 @@ module _ (s : Settings) (code regs : List ℕ) where
 
     -- the tests of a resume pass exactly if all is in bounds, the blocks nest and the state fits
     pub resume-passes : (resumeTest s state code regs ≡ Fine)
-        ↔ (Bounded s code regs × Nested code (s .registers) × StateFits code (s .registers) (s .lanes) (state .hot) (state .blocks))
+        ↔ (Bounded s code regs × Nested code (readingOf s) × StateFits code (readingOf s) (s .lanes) (state .hot) (state .blocks))
     resume-passes = (
       λ e.
           let q = launch-passes .0 (then-first (launchTest s code regs) (state-test fit) e) in

@@ -17,6 +17,7 @@ use Rattle.instructions.specs.Forms.{limitsOf, size}
 use Rattle.words.specs.Fetching.{instrAt, controlIn}
 use Rattle.words.proofs.Sizes.{size-most}
 use Rattle.words.proofs.Fetches.{fetched}
+use Rattle.blocks.specs.declared.item.Reading.{Reading}
 use Rattle.blocks.specs.declared.structure.Checked.the-variants.{Fine}
 use Rattle.blocks.specs.Item.{itemBy, itemOf, itemAt}
 use Rattle.blocks.specs.Code.{codeOf}
@@ -42,9 +43,9 @@ use Rattle.replay.proofs.Naming.{lent-to, named-fits, with-named-fits}
 use Rattle.replay.proofs.Runs.{run-induction}
 
 -- a wave that fits does so with any predicates of launched lanes
-other-preds : (code : List ℕ) (registers n : ℕ) (w : Wave) (ps qs : Preds) → PredsFit (first n) qs → WaveFits code registers n w ps
-    → WaveFits code registers n w qs
-other-preds code registers n w ps qs q f = record { blocks = f .blocks; sets = lanes-fit n w qs (fits-lanes n w ps (f .sets) .0) q }
+other-preds : (code : List ℕ) (by : Reading) (n : ℕ) (w : Wave) (ps qs : Preds) → PredsFit (first n) qs → WaveFits code by n w ps
+    → WaveFits code by n w qs
+other-preds code by n w ps qs q f = record { blocks = f .blocks; sets = lanes-fit n w qs (fits-lanes n w ps (f .sets) .0) q }
 
 -- ---- a run that has not ended stands inside the code
 either-false : (a b : Bool) → (a || b) ≡ false → a ≡ false
@@ -57,35 +58,35 @@ inside s code m e =
     (either-false (leb (length code) (m .wave .place)) (eqb (without (launchedOf s) (m .wave .halted)) 0) e)
 
 -- ---- checked code
-module _ (code : List ℕ) (registers : ℕ) (checked : checkOf (codeOf code registers) ≡ Fine) (short : length code ≤ mostWords) where
+module _ (code : List ℕ) (by : Reading) (checked : checkOf (codeOf code by) ≡ Fine) (short : length code ≤ mostWords) where
   fewer : length code < 2 ^ 32
   fewer = omega arith
 
   -- the instruction that is carried out is the one that the check saw
-  pub found-instruction : (place : ℕ) (path : List Block) → place < length code → (x : Found) → openAt (codeOf code registers) place ≡ x
-      → OpenThere x path → Instruction code registers place
+  pub found-instruction : (place : ℕ) (path : List Block) → place < length code → (x : Found) → openAt (codeOf code by) place ≡ x
+      → OpenThere x path → Instruction code by place
   found-instruction place path h nowhere e f = absurd f
-  found-instruction place path h (there o) e f = instruction-there code registers place checked o e h
+  found-instruction place path h (there o) e f = instruction-there code by place checked o e h
 
-  pub item-there : (place : ℕ) (path : List Block) → place < length code → OpenThere (openAt (codeOf code registers) place) path
-      → itemAt code registers place ≡ itemOf (instrAt code place .op) (size (instrAt code place .op))
+  pub item-there : (place : ℕ) (path : List Block) → place < length code → OpenThere (openAt (codeOf code by) place) path
+      → itemAt code by place ≡ itemOf (instrAt code place .op) (size (instrAt code place .op))
   item-there place path h f =
-      let i = found-instruction place path h (openAt (codeOf code registers) place) refl f in
+      let i = found-instruction place path h (openAt (codeOf code by) place) refl f in
       let r = fetched code place (i .width) (i .instr) (i .reads) in
       i .item-is ∙ ap (itemOf (i .instr .op)) (sym (r .1)) ∙ ap (λ (x : Instr). itemOf (x .op) (size (x .op))) (sym (r .0))
 
   module _ (n all t : ℕ) (w : Wave) (ps qs : Preds) (h : w .place < length code) (lanes : (i : ℕ) → bit t i ≤ bit (w .active) i)
-      (q : PredsFit (first n) qs) (f : WaveFits code registers n w ps) where
-    wave-keeps : (c : ControlIn) (words : ℕ) → words ≤ 2 → itemAt code registers (w .place) ≡ itemBy c words
-        → WaveFits code registers n (waveBy c words all t w) qs
+      (q : PredsFit (first n) qs) (f : WaveFits code by n w ps) where
+    wave-keeps : (c : ControlIn) (words : ℕ) → words ≤ 2 → itemAt code by (w .place) ≡ itemBy c words
+        → WaveFits code by n (waveBy c words all t w) qs
     wave-keeps (ControlIn.Control o) words m i =
-        other-preds code registers n (controlRule o all t w) ps qs q (control-keeps code registers checked fewer w h o n all t ps i lanes f)
-    wave-keeps ControlIn.Other words m i = onward-keeps code registers checked fewer w h n words ps qs i (omega arith) q f
+        other-preds code by n (controlRule o all t w) ps qs q (control-keeps code by checked fewer w h o n all t ps i lanes f)
+    wave-keeps ControlIn.Other words m i = onward-keeps code by checked fewer w h n words ps qs i (omega arith) q f
 
   module _ (s : Settings) (n : ℕ) where
     -- the wave and its predicates fit
     abbrev MachineFits : Machine → Type 0
-    MachineFits m = WaveFits code registers n (m .wave) (m .preds)
+    MachineFits m = WaveFits code by n (m .wave) (m .preds)
 
     preds-keep : (x : Instr) (m : Machine) → MachineFits m
         → PredsFit (first n) (withNamed (x .rd) (computed s x (lanesOf x m) m .after .predicate) (m .preds))

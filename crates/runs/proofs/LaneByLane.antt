@@ -96,7 +96,7 @@ module _ (shape : Shape) (x : Instr) (t : ℕ) (m : Lent) (slim : shape .width �
   same-old at address f g a b memory i h e = rw (e, a i h, same-turns at address f g i (omega arith) a b memory) refl
 
   -- a lane's result
-  value-is : (o : Op) (i : ℕ) → i < W → has t i ≡ true → valueBy o x t (m .memories) (read o) i ≡ resultBy o shape x t m i
+  value-is : (o : Op) (i : ℕ) → i < W → has t i ≡ true → valueBy o W x t (m .memories) (read o) i ≡ resultBy o shape x t m i
   value-is (Op.Two o) i h e = rw (reg (x .rs1) i h, reg (x .rs2) i h) refl
   value-is (Op.Compare o) i h e = rw (reg (x .rs1) i h, reg (x .rs2) i h) refl
   value-is (Op.One o) i h e = rw (reg (x .rs1) i h) refl
@@ -115,7 +115,7 @@ module _ (shape : Shape) (x : Instr) (t : ℕ) (m : Lent) (slim : shape .width �
 
   result-at : (i : ℕ) → i < W → has t i ≡ true → getD (resultsOf shape x t (m .memories) (read (x .op))) i 0 ≡ resultOf shape x t m i
   unfolding resultsOf
-  result-at i h e = getD-by-lane W (valueBy (x .op) x t (m .memories) (read (x .op))) i h slim ∙ value-is (x .op) i h e
+  result-at i h e = getD-by-lane W (valueBy (x .op) W x t (m .memories) (read (x .op))) i h slim ∙ value-is (x .op) i h e
 
 -- an operation whose results go to a register has one in RD
 rd-register : (o : Op) → targetBy o ≡ to-register → registersOf o .rd ≡ true

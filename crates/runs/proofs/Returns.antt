@@ -36,6 +36,7 @@ use Rattle.replay.specs.Replay.{
   mostSteps,
   mostWords,
   settingsRight,
+  readingOf,
   thenTest,
   refusedUnless,
   settingTest,
@@ -80,11 +81,11 @@ pub record Launchable (s : Settings) (code : List ℕ) : Type 0 where
   pub some-lane : leb 1 (s .lanes) ≡ true
   pub few-lanes : leb (s .lanes) (s .width) ≡ true
   pub short : leb (length code) mostWords ≡ true
-  pub checked : checkOf (codeOf code (s .registers)) ≡ Fine
+  pub checked : checkOf (codeOf code (readingOf s)) ≡ Fine
 
 pub launchable : (s : Settings) (b : ℕ) (code regs : List ℕ) → launchTest (budgeted b s) code regs ≡ Fine → Launchable s code
 launchable s b code regs e =
-    let t1 = then-first (boundsTest (budgeted b s) code regs) (checkOf (codeOf code (s .registers))) e in
+    let t1 = then-first (boundsTest (budgeted b s) code regs) (checkOf (codeOf code (readingOf s))) e in
     let rest : Checked = thenTest (lengthTest code) (bufferTest s regs) in
     let right : settingsRight (budgeted b s) ≡ true =
     unless-true (settingsRight (budgeted b s)) _ (then-first (settingTest (budgeted b s)) rest t1) in
@@ -98,12 +99,12 @@ launchable s b code regs e =
       short =
           unless-true (leb (length code) mostWords) _
           (then-first (lengthTest code) (bufferTest s regs) (then-second (settingTest (budgeted b s)) rest t1));
-      checked = then-second (boundsTest (budgeted b s) code regs) (checkOf (codeOf code (s .registers))) e;
+      checked = then-second (boundsTest (budgeted b s) code regs) (checkOf (codeOf code (readingOf s))) e;
     }
 
 pub right-length : (s : Settings) (code regs : List ℕ) → launchTest s code regs ≡ Fine → length regs ≡ s .width * s .registers
 right-length s code regs e =
-    let t1 = then-first (boundsTest s code regs) (checkOf (codeOf code (s .registers))) e in
+    let t1 = then-first (boundsTest s code regs) (checkOf (codeOf code (readingOf s))) e in
     let rest : Checked = thenTest (lengthTest code) (bufferTest s regs) in
     eqb-true (length regs) (s .width * s .registers)
     (unless-true (eqb (length regs) (s .width * s .registers)) _
@@ -112,14 +113,14 @@ right-length s code regs e =
 -- what the tests of a resume ask: those of a launch, and that the state fits
 pub record Resumable (s : Settings) (state : State) (code regs : List ℕ) : Type 0 where
   pub launches : launchTest s code regs ≡ Fine
-  pub fits : fitsTest code (s .registers) (s .lanes) (state .hot) (state .blocks) ≡ true
+  pub fits : fitsTest code (readingOf s) (s .lanes) (state .hot) (state .blocks) ≡ true
 
 pub resumable : (s : Settings) (state : State) (code regs : List ℕ) → resumeTest s state code regs ≡ Fine → Resumable s state code regs
 resumable s state code regs e =
     record {
       launches = then-first (launchTest s code regs) (stateTest s state code) e;
       fits =
-          unless-true (fitsTest code (s .registers) (s .lanes) (state .hot) (state .blocks)) _
+          unless-true (fitsTest code (readingOf s) (s .lanes) (state .hot) (state .blocks)) _
           (then-second (launchTest s code regs) (stateTest s state code) e);
     }
 
@@ -157,23 +158,23 @@ module _ (s : Settings) (code : List ℕ) (l : Launchable s code) where
 
   -- ---- a machine in order: its wave fits, and it has its registers
   pub record InOrder (m : Machine) : Type 0 where
-    pub fits : WaveFits code (s .registers) (s .lanes) (m .wave) (m .preds)
+    pub fits : WaveFits code (readingOf s) (s .lanes) (m .wave) (m .preds)
     pub long : length (m .regs) ≡ s .width * s .registers
 
   pub launch-in-order : (regs device local : List ℕ) → length regs ≡ s .width * s .registers → InOrder (launchMachine s regs device local)
   launch-in-order regs device local e =
       let z : launchedLanes s ≡ s .lanes = min-eq-left lanes-most in
-      record { fits = rw z (launch-fits code (s .registers) (s .lanes)); long = e }
+      record { fits = rw z (launch-fits code (readingOf s) (s .lanes)); long = e }
 
   pub given-in-order : (state : State) (regs device local : List ℕ) → length regs ≡ s .width * s .registers
-      → fitsTest code (s .registers) (s .lanes) (state .hot) (state .blocks) ≡ true → InOrder (stateMachine state regs device local)
+      → fitsTest code (readingOf s) (s .lanes) (state .hot) (state .blocks) ≡ true → InOrder (stateMachine state regs device local)
   given-in-order state regs device local e t =
-      record { fits = fits-test code (s .registers) (s .lanes) (state .hot) (state .blocks) .0 t .wave; long = e }
+      record { fits = fits-test code (readingOf s) (s .lanes) (state .hot) (state .blocks) .0 t .wave; long = e }
 
   -- the state that holds it fits, and goes on with any budget that is allowed
   held-fits : (m : Machine) → InOrder m
-      → Fits code (s .registers) (s .lanes) (stateOf (m .wave) (m .preds) .hot) (stateOf (m .wave) (m .preds) .blocks)
-  held-fits m o = state-fits code (s .registers) (s .lanes) (m .wave) (m .preds) lanes-most (o .fits)
+      → Fits code (readingOf s) (s .lanes) (stateOf (m .wave) (m .preds) .hot) (stateOf (m .wave) (m .preds) .blocks)
+  held-fits m o = state-fits code (readingOf s) (s .lanes) (m .wave) (m .preds) lanes-most (o .fits)
 
   pub in-order-resumes : (c : ℕ) (m : Machine) → InOrder m → c ≤ mostSteps
       → resumeTest (budgeted c s) (stateOf (m .wave) (m .preds)) code (m .regs) ≡ Fine
@@ -181,20 +182,20 @@ module _ (s : Settings) (code : List ℕ) (l : Launchable s code) where
       let x : State = stateOf (m .wave) (m .preds) in
       resumable-passes (budgeted c s) x code (m .regs) (record {
         launches = passes c (m .regs) h (o .long);
-        fits = fits-test code (s .registers) (s .lanes) (x .hot) (x .blocks) .1 (held-fits m o);
+        fits = fits-test code (readingOf s) (s .lanes) (x .hot) (x .blocks) .1 (held-fits m o);
       })
 
   -- and stays so
   run-in-order : (b : ℕ) (m : Machine) → InOrder m → InOrder (runOf s code b m .end)
   run-in-order b m o =
       record {
-        fits = run-keeps code (s .registers) (l .checked) (leb-true (length code) mostWords (l .short)) s (s .lanes) b m (o .fits);
+        fits = run-keeps code (readingOf s) (l .checked) (leb-true (length code) mostWords (l .short)) s (s .lanes) b m (o .fits);
         long = run-long s code b m ∙ o .long;
       }
 
   -- THE STATE that a run answers fits
   pub returned-fits : (b : ℕ) (m : Machine) → InOrder m
-      → Fits code (s .registers) (s .lanes) (ending (runOf s code b m) .state .hot) (ending (runOf s code b m) .state .blocks)
+      → Fits code (readingOf s) (s .lanes) (ending (runOf s code b m) .state .hot) (ending (runOf s code b m) .state .blocks)
   returned-fits b m o = held-fits (runOf s code b m .end) (run-in-order b m o)
 
   -- so that it goes on, with any budget that is allowed
@@ -280,7 +281,7 @@ module _ (s : Settings) (code : List ℕ) (l : Launchable s code) (a b : ℕ) (m
       ∙ resumed (budgeted b s) code (r .regs) (r .memories .device) (r .memories .local) (stateOf (r .wave) (r .preds))
       (goes-on-from s code l a b m o (omega arith))
       ∙ ap (λ (k : Machine). ending (runOf (budgeted b s) code b k))
-      (state-machine r (path-room code (s .registers) (s .lanes) (r .wave) (r .preds) (run-in-order s code l a m o .fits)))
+      (state-machine r (path-room code (readingOf s) (s .lanes) (r .wave) (r .preds) (run-in-order s code l a m o .fits)))
       ∙ ap (λ (r : Ran). ending (runOf (budgeted b s) code b (r .end))) (sym (run-budgeted a (s .budget) s code a m))
 
   goes : earlier .outcome ≡ OutOfBudget

@@ -33,7 +33,7 @@ use Rattle.replay.specs.declared.settings.Settings.{Settings}
 use Rattle.replay.specs.Machine.{Machine}
 use Rattle.replay.specs.Step.{shapeOf, stepOf}
 use Rattle.replay.specs.Run.{endedOf, stepAt, runOf}
-use Rattle.replay.specs.Replay.{mostWords, runFrom, launchMachine, launchOf, stateMachine, resumeOf}
+use Rattle.replay.specs.Replay.{mostWords, readingOf, runFrom, launchMachine, launchOf, stateMachine, resumeOf}
 use Rattle.runs.specs.Refusals.{Bounded}
 use Rattle.runs.specs.Running.{ComesBy, at-once, further, lentOf, Instructed}
 use Rattle.runs.proofs.Allowing.{allowed-narrow}
@@ -58,7 +58,7 @@ module _ (s : Settings) (code : List ℕ) (l : Launchable s code) where
   comes-in-order n m k (further {n = n′} e c r) o =
       comes-in-order n′ (stepAt s code m .end) k r
       (record {
-        fits = step-keeps code (s .registers) (l .checked) short s (s .lanes) m (inside s code m e) (o .fits);
+        fits = step-keeps code (readingOf s) (l .checked) short s (s .lanes) m (inside s code m e) (o .fits);
         long = step-long s code m ∙ o .long;
       })
 
@@ -67,7 +67,7 @@ module _ (s : Settings) (code : List ℕ) (l : Launchable s code) where
       let at = m .wave .place in
       let h : at < length code = inside s code m e in
       let few : length code < 2 ^ 32 = omega (arith, short) in
-      let i = found-instruction code (s .registers) (l .checked) short at (m .wave .path) h (openAt (codeOf code (s .registers)) at) refl (o .fits .blocks) in
+      let i = found-instruction code (readingOf s) (l .checked) short at (m .wave .path) h (openAt (codeOf code (readingOf s)) at) refl (o .fits .blocks) in
       let x : Instr = i .instr in
       let f = fetched code at (i .width) x (i .reads) in
       let w = stood code at x (i .width) (i .reads) in
@@ -84,9 +84,9 @@ module _ (s : Settings) (code : List ℕ) (l : Launchable s code) where
         computes = λ t. carried-in (shapeOf s) x t (lentOf x m) shaped;
         ready =
             λ c ec.
-            ready-there code (s .registers) (l .checked) few (m .wave) h c (s .lanes) (m .preds)
+            ready-there code (readingOf s) (l .checked) few (m .wave) h c (s .lanes) (m .preds)
             (i .item-is ∙ ap (λ (op : Op). itemOf op (i .width)) ec) (o .fits);
-        deep = path-room code (s .registers) (s .lanes) (m .wave) (m .preds) (o .fits);
+        deep = path-room code (readingOf s) (s .lanes) (m .wave) (m .preds) (o .fits);
         lanes = min-eq-left (lanes-most s code l);
       }
 
@@ -95,7 +95,7 @@ pub step-of : (s : Settings) (code : List ℕ) (m : Machine) (i : Instructed s c
 step-of s code m i = ap (λ (x : Instr). stepOf s x m) (i .carried)
 
 -- ---- THEOREMS
-module _ (s : Settings) (code regs device local : List ℕ) (bounded : Bounded s code regs) (nested : Nested code (s .registers)) where
+module _ (s : Settings) (code regs device local : List ℕ) (bounded : Bounded s code regs) (nested : Nested code (readingOf s)) where
   lawful : Launchable s code
   lawful = launchable s (s .budget) code regs (launch-passes s code regs .1 (bounded, nested))
 
@@ -110,7 +110,7 @@ module _ (s : Settings) (code regs device local : List ℕ) (bounded : Bounded s
       instructed s code lawful (allowed-narrow s (bounded .allowed)) m
       (comes-in-order s code lawful n (launchMachine s regs device local) m c (launch-in-order s code lawful regs device local (bounded .buffer)))
 
-  module _ (state : State) (fits : StateFits code (s .registers) (s .lanes) (state .hot) (state .blocks)) where
+  module _ (state : State) (fits : StateFits code (readingOf s) (s .lanes) (state .hot) (state .blocks)) where
     -- GOING ON from a state that fits runs
     pub resume-runs : resumeOf s state code regs device local ≡ runFrom s code (stateMachine state regs device local)
     resume-runs = resumed s code regs device local state (resume-passes s code regs state .1 (bounded, nested, fits))
@@ -119,7 +119,7 @@ module _ (s : Settings) (code regs device local : List ℕ) (bounded : Bounded s
     pub resume-opens : stateMachine state regs device local .wave .path ≡ opened (state .blocks) (state .hot .depth)
     resume-opens =
         ap (opened (state .blocks))
-        (min-eq-left (depth-room code (s .registers) (s .lanes) nested (lanes-most s code lawful) (state .hot) (state .blocks) (fits .opens)))
+        (min-eq-left (depth-room code (readingOf s) (s .lanes) nested (lanes-most s code lawful) (state .hot) (state .blocks) (fits .opens)))
 
     pub resume-instructed : (n : ℕ) (m : Machine) → ComesBy s code n (stateMachine state regs device local) m → endedOf s code m ≡ false
         → Instructed s code m

@@ -11,7 +11,7 @@ use Rattle.blocks.specs.Nesting.{Nested, Broken}
 use Rattle.wave.specs.declared.state.State.{State}
 use Rattle.fits.specs.Opens.{StateFits}
 use Rattle.replay.specs.declared.settings.Settings.{Settings}
-use Rattle.replay.specs.Replay.{mostRegisters, mostSteps, mostWords}
+use Rattle.replay.specs.Replay.{mostRegisters, mostSteps, mostWords, readingOf}
 
 -- the settings that are allowed
 pub record Allowed (s : Settings) : Type 0 where
@@ -36,10 +36,10 @@ pub data BoundsBreak (s : Settings) (code regs : List ℕ) : Refusal → Type 0 
 -- a launch: then 4 to 10, in the code
 pub data LaunchBreaks (s : Settings) (code regs : List ℕ) : Refusal → Type 0 where
   in-bounds : {r : Refusal} → BoundsBreak s code regs r → LaunchBreaks s code regs r
-  in-code : {r : Refusal} → Bounded s code regs → Broken code (s .registers) r → LaunchBreaks s code regs r
+  in-code : {r : Refusal} → Bounded s code regs → Broken code (readingOf s) r → LaunchBreaks s code regs r
 
 -- going on from a state: then 11, the state doesn't fit
 pub data ResumeBreaks (s : Settings) (state : State) (code regs : List ℕ) : Refusal → Type 0 where
   in-launch : {r : Refusal} → LaunchBreaks s code regs r → ResumeBreaks s state code regs r
-  in-state : Bounded s code regs → Nested code (s .registers)
-      → (StateFits code (s .registers) (s .lanes) (state .hot) (state .blocks) → ⊥) → ResumeBreaks s state code regs (broken Rule.state 0)
+  in-state : Bounded s code regs → Nested code (readingOf s)
+      → (StateFits code (readingOf s) (s .lanes) (state .hot) (state .blocks) → ⊥) → ResumeBreaks s state code regs (broken Rule.state 0)

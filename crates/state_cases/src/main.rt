@@ -1,9 +1,11 @@
 // Asks of the states on the standard input whether they fit. A case is a line of hexadecimal numbers, with a space between two: the number of
 // registers, the launched lanes n, how many words the code has, the code, the seven hot numbers, and numbers of the open blocks (0 where the
 // line ends first). For each it writes a line, `fits` or `11`.
+use blocks::item::Reading;
 use fits::fits;
 use libc::STDIN_FILENO;
 use libc::STDOUT_FILENO;
+use refusals::STATE;
 use wave::state::Hot;
 use wave::state::PATH_NUMBERS;
 ghost use Prim.Native.Nat.{_≤_, _+_};
@@ -85,13 +87,15 @@ fn blocks_at(numbers: &[u32; SPACE], at: usize) -> [u32; PATH_NUMBERS]
 
 // Whether the state of a case fits its code.
 fn answer(numbers: [u32; SPACE]) -> bool {
-    let registers = numbers[0];
+    let reading = Reading {
+        registers: numbers[0],
+    };
     let n = numbers[1];
     let words = numbers[2] % WORDS;
     let start = SETTINGS + words as usize;
     let hot = hot_at(&numbers, start);
     let bl = blocks_at(&numbers, start + HOT);
-    fits(&numbers[SETTINGS..start], registers, n, hot, &bl)
+    fits(&numbers[SETTINGS..start], reading, n, hot, &bl)
 }
 
 // Writes the line of a case.
@@ -100,7 +104,8 @@ fn report(line: Line) {
     if answer(numbers) {
         io::write_all(STDOUT_FILENO, b"fits\n");
     } else {
-        io::write_all(STDOUT_FILENO, b"11\n");
+        io::print_decimal(STDOUT_FILENO, STATE as u64);
+        io::write_all(STDOUT_FILENO, b"\n");
     }
 }
 

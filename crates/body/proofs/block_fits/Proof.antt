@@ -1,5 +1,5 @@
 -- The numbers that are read are the block's.
-use Rattle.body.proofs.Starts.{block-read}
+use Rattle.body.proofs.Reading.{block-read}
 use borrow.Author.Needs.{needs}
 use Rattle.body.proofs.block_fits.Statement.{statement}
 use Rattle.body.proofs.block_fits.Tie as tie

@@ -5,14 +5,17 @@ use borrow.Author.Tests.{not-true, not-false}
 use lib.ListN.{length}
 use borrow.Author.Needs.{needs}
 use Rattle.ground.specs.Tests.{allOf}
-use Rattle.body.specs.Layout.{blockFits, each, blockAt}
-use Rattle.body.proofs.Each.{all-stop, all-on, all-end}
+use Rattle.formats.specs.Places.{each}
+use Rattle.formats.proofs.Each.{all-stop, all-on, all-end}
+use Rattle.body.specs.Body.{setBytes}
+use Rattle.body.specs.Layout.{blockFits}
+use Rattle.body.specs.Places.{blockAt}
 use Rattle.body.proofs.blocks_fit.Statement.{statement}
 use Rattle.body.proofs.blocks_fit.Tie as tie
 
 abbrev Inv-loop : tie.InvT-loop
 Inv-loop bytes p depth at₀ left₀ at left =
-    (at + 24 * left ≤ length bytes) × (allOf blockFits (each (blockAt bytes) 24 p depth) ≡ allOf blockFits (each (blockAt bytes) 24 at left))
+    (at + 24 * left ≤ length bytes) × (allOf blockFits (each (blockAt setBytes bytes) 24 p depth) ≡ allOf blockFits (each (blockAt setBytes bytes) 24 at left))
 
 abbrev μ-loop : tie.MeasureT-loop
 μ-loop bytes p depth at₀ left₀ at left = left

@@ -1,19 +1,19 @@
 -- The tests are those of `startsBody` in another order, of the part from `at` on.
 use native.Mathlib.Omega.{arith}
 use borrow.Author.Tests.{not-true, not-false}
-use Rattle.body.proofs.Starts.{answer-out, BodyRead, fits-room, answer-unfit, answer-blocks, answer-body}
+use Rattle.body.proofs.Answers.{answer-out, BodyRead, fits-room, answer-unfit, answer-blocks, answer-body}
 use borrow.Author.Needs.{needs}
 use Rattle.body.proofs.body_length.Statement.{statement}
 use Rattle.body.proofs.body_length.Tie as tie
 
 -- what is read before the blocks
-body-read : (z : tie.After-get3) → let kinds = z .before in let depth = kinds .before in let count = depth .before in
+body-read : (z : tie.After-place) → let kinds = z .before in let depth = kinds .before in let count = depth .before in
     let a = count .before .before .before .before .args in
-    BodyRead (a .bytes .now) (a .at) (count .get .result) (depth .get2 .result) (z .get3 .result) (kinds .faults-fit .result)
+    BodyRead (a .bytes .now) (a .at) (count .count .result) (depth .depth .result) (z .place .result) (kinds .faults-fit .result)
 body-read z =
     let kinds = z .before in
     let depth = kinds .before in
-    record { count = depth .before .get .ensures; depth = depth .get2 .ensures; place = z .get3 .ensures; faults = kinds .faults-fit .ensures }
+    record { count = depth .before .count .ensures; depth = depth .depth .ensures; place = z .place .ensures; faults = kinds .faults-fit .ensures }
 
 returns : tie.Need-returns
 returns c = answer-out _ _ (omega arith)
@@ -37,5 +37,5 @@ returns-4 c =
 pub body-length-spec : {M : Type 1} → statement M
 body-length-spec = tie.close (tie.spec
     returns (λ c. search needs) (λ c. search needs) (λ c. search needs) (λ c κs. search needs) (λ c. search needs) (λ c. search needs)
-    (λ c. search needs) (λ c. search needs) (λ c κs. search needs) (λ c. search needs) (λ c. search needs) (λ c. search needs)
-    (λ c κs. search needs) (λ c κs. search needs) returns-2 blocks-fit-requires returns-3 returns-4)
+    (λ c. search needs) (λ c κs. search needs) (λ c. search needs) (λ c. search needs) (λ c. search needs) (λ c κs. search needs)
+    (λ c κs. search needs) returns-2 blocks-fit-requires returns-3 returns-4)

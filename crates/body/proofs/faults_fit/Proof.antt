@@ -1,27 +1,73 @@
--- By the count: one kind, two kinds, and any other count, which no list of kinds has.
-use Rattle.body.proofs.Allowed.{faults-none, faults-one, faults-two}
+-- The invariant: the faults from `left` on are tested, and their kinds are spelled.
+use Prim.Native.Nat.{_≤_}
+use native.Mathlib.Omega.{arith}
+use borrow.Author.Tests.{not-true, not-false}
+use mathlib.Core.Path.{sym, _∙_}
+use lib.ListN.{length}
 use borrow.Author.Needs.{needs}
+use Rattle.body.specs.Body.{Parts, partsAt}
+use Rattle.body.specs.Layout.{mostKinds}
+use Rattle.body.proofs.Spelling.{too-many, Testing, testing-start, testing-stop, testing-next, testing-room, testing-end}
 use Rattle.body.proofs.faults_fit.Statement.{statement}
 use Rattle.body.proofs.faults_fit.Tie as tie
 
-returns : tie.Need-returns
-returns c =
-    let lanes = c .before .before in
-    let kind = lanes .before in
-    faults-one _ _ (kind .before .get .ensures) _ _ (kind .get2 .ensures) (lanes .get3 .ensures) _ (c .before .if1 .taken) (c .one-kind .ensures)
+abbrev Inv-loop : tie.InvT-loop
+Inv-loop bytes left₀ kinds₀ seen₀ left kinds seen = (length (partsAt bytes .faults) ≤ mostKinds) × Testing (partsAt bytes .faults) left kinds seen
 
-returns-2 : tie.Need-returns-2
-returns-2 c = faults-none _ _ (c .before .before .before .before .get .ensures) (c .before .if1 .left) (c .if2 .taken)
+abbrev μ-loop : tie.MeasureT-loop
+μ-loop bytes left₀ kinds₀ seen₀ left kinds seen = left
 
-returns-3 : tie.Need-returns-3
+returns : tie.Need-returns Inv-loop μ-loop
+returns c = too-many _ (omega (arith, c .before .count .ensures, c .if1 .taken))
+
+loop-holds : tie.Need-loop-holds Inv-loop μ-loop
+loop-holds c = (omega (arith, c .before .count .ensures, c .if1 .left), testing-start _ _ (c .before .count .ensures))
+
+returns-2 : tie.Need-returns-2 Inv-loop μ-loop
+returns-2 c =
+    let fault = c .before .before in
+    let turn = fault .before in
+    testing-stop (turn .before .loop .inv .1) (turn .loop-test .taken) _ (fault .fault .ensures)
+    (sym (c .before .may-precede .ensures) ∙ not-true _ (c .if2 .taken))
+
+-- one digit more has room
+room : tie.Need-add-kinds Inv-loop μ-loop
+room c =
+    let test = c .before in
+    let fault = test .before .before in
+    let turn = fault .before in
+    omega (
+      arith,
+      testing-room (turn .before .loop .inv .1) (turn .loop-test .taken) _ (fault .fault .ensures)
+          (sym (test .before .may-precede .ensures) ∙ not-false _ (test .if2 .left)) (turn .before .loop .inv .0),
+    )
+
+mul-kinds : tie.Need-mul-kinds Inv-loop μ-loop
+mul-kinds c =
+    let fault = c .before .before in
+    let turn = fault .before in
+    omega (
+      arith,
+      testing-room (turn .before .loop .inv .1) (turn .loop-test .taken) _ (fault .fault .ensures)
+          (sym (c .before .may-precede .ensures) ∙ not-false _ (c .if2 .left)) (turn .before .loop .inv .0),
+    )
+
+loop-again : tie.Need-loop-again Inv-loop μ-loop
+loop-again c =
+    let test = c .before .before in
+    let fault = test .before .before in
+    let turn = fault .before in (
+      turn .before .loop .inv .0,
+      testing-next (turn .before .loop .inv .1) (turn .loop-test .taken) _ (fault .fault .ensures)
+          (sym (test .before .may-precede .ensures) ∙ not-false _ (test .if2 .left)),
+    )
+
+returns-3 : tie.Need-returns-3 Inv-loop μ-loop
 returns-3 c =
-    let second = c .before .before in
-    let lanes = second .before .before .before in
-    let kind = lanes .before in
-    faults-two _ _ (kind .before .get .ensures) _ _ (kind .get2 .ensures) (lanes .get3 .ensures) _ _ _ (second .get4 .ensures)
-    (c .before .get5 .ensures) (second .before .if2 .left) (c .two-kinds .ensures)
+    let test = c .before in
+    c .in-table .ensures ∙ testing-end (test .before .loop .inv .1) (test .loop-test .left)
 
 pub faults-fit-spec : {M : Type 1} → statement M
 faults-fit-spec = tie.close (tie.spec
-    (λ c κs. search needs) (λ c κs. search needs) (λ c κs. search needs) (λ c κs. search needs) returns returns-2 (λ c κs. search needs)
-    (λ c κs. search needs) (λ c κs. search needs) returns-3)
+    Inv-loop μ-loop (λ c κs. search needs) (λ c. search needs) returns loop-holds (λ c. search needs) (λ c κs. search needs)
+    (λ c κs. search needs) returns-2 mul-kinds room (λ c. search needs) (λ c. search needs) loop-again (λ c κs. search needs) returns-3)

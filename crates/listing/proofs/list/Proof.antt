@@ -1,7 +1,7 @@
 -- By the answer of `firsts`: the table of the records, or the line of a refusal.
 use mathlib.Core.Path.{refl, sym}
 use lib.Seq.{length-take-le}
-use Rattle.listing.proofs.Putting.{puts-same}
+use Rattle.numbers.proofs.Placing.{puts-same}
 use Rattle.listing.proofs.Lines.{text-long, text-table, text-refused, Counted, firsts-counted, firsts-not}
 use borrow.Author.Needs.{needs}
 use Rattle.listing.proofs.list.Statement.{statement}

@@ -1,5 +1,5 @@
 -- The number behind the word.
-use Rattle.listing.proofs.Putting.{puts-join}
+use Rattle.numbers.proofs.Placing.{puts-join}
 use borrow.Author.Needs.{needs}
 use Rattle.listing.proofs.put_refusal.Statement.{statement}
 use Rattle.listing.proofs.put_refusal.Tie as tie

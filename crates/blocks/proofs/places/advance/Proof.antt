@@ -15,19 +15,19 @@ use Rattle.blocks.proofs.places.advance.Tie as tie
 -- where a turn has been judged
 ready : (j : tie.After-judge)
     → let a = j .before .before .before .before .before .args in
-    Ready (codeOf (a .code .now) (a .registers)) (a .at) (a .s) (j .before .inner .result) (ltb 0 (a .s .loops)) (j .judge .result)
+    Ready (codeOf (a .code .now) (a .reading)) (a .at) (a .s) (j .before .inner .result) (ltb 0 (a .s .loops)) (j .judge .result)
 ready j =
     let a = j .before .before .before .before .before .args in
     record {
-      fits = code-fits (a .code .now) (a .registers);
+      fits = code-fits (a .code .now) (a .reading);
       in-code = j .before .before .before .if1 .left;
       inside = j .before .inner .ensures;
       looped = refl;
-      turn = turned (codeOf (a .code .now) (a .registers)) (a .at) (nesting - a .s .depth) (j .before .inner .result) (ltb 0 (a .s .loops)) (j .before .before .look .ensures) (j .judge .ensures);
+      turn = turned (codeOf (a .code .now) (a .reading)) (a .at) (nesting - a .s .depth) (j .before .inner .result) (ltb 0 (a .s .loops)) (j .before .before .look .ensures) (j .judge .ensures);
     }
 
 returns : tie.Need-returns
-returns c = λ o h. stopped (codeOf (c .before .before .args .code .now) (c .before .before .args .registers)) _ o _ (c .if1 .taken)
+returns c = λ o h. stopped (codeOf (c .before .before .args .code .now) (c .before .before .args .reading)) _ o _ (c .if1 .taken)
 
 add-t20 : tie.Need-add-t20
 add-t20 c = omega (arith, on-ok (ready (c .before .before .before .before)) (c .before .before .turn .given .1))

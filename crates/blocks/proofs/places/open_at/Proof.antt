@@ -11,13 +11,13 @@ use Rattle.blocks.proofs.places.open_at.Statement.{statement}
 use Rattle.blocks.proofs.places.open_at.Tie as tie
 
 abbrev Inv-loop : tie.InvT-loop
-Inv-loop code registers place s₀ at₀ s at = Walked (codeOf code registers) place s at
+Inv-loop code reading place s₀ at₀ s at = Walked (codeOf code reading) place s at
 
 abbrev μ-loop : tie.MeasureT-loop
-μ-loop code registers place s₀ at₀ s at = place - at
+μ-loop code reading place s₀ at₀ s at = place - at
 
 loop-holds : tie.Need-loop-holds Inv-loop μ-loop
-loop-holds c = record { fits = code-fits (c .before .before .args .code .now) (c .before .before .args .registers); blocks = []; holds = c .empty .ensures; same = refl }
+loop-holds c = record { fits = code-fits (c .before .before .args .code .now) (c .before .before .args .reading); blocks = []; holds = c .empty .ensures; same = refl }
 
 advance-requires : tie.Need-advance-requires Inv-loop μ-loop
 advance-requires c κs = (c .before .loop .inv .blocks, c .before .loop .inv .holds)

@@ -32,10 +32,10 @@ abbrev calls : ℕ → level-lts.Claims
 calls t = (look-reads.Asked, look-reads.Learnt, judge-reads.Asked, judge-reads.Learnt, level-below t, level.Post)
 
 abbrev Inv-loop : level-lts.InvT-loop
-Inv-loop code registers from room in-loop at₀ part₀ at part = Along (codeOf code registers) from room part₀ in-loop at part
+Inv-loop code reading from room in-loop at₀ part₀ at part = Along (codeOf code reading) from room part₀ in-loop at part
 
 abbrev μ-loop : level-lts.MeasureT-loop
-μ-loop code registers from room in-loop at₀ part₀ at part = length code - at
+μ-loop code reading from room in-loop at₀ part₀ at part = length code - at
 
 module _ (t : ℕ) where
   -- where a turn has been judged
@@ -45,19 +45,19 @@ module _ (t : ℕ) where
   here : (j : Judged)
       → let a = j .before .before .before .before .before .args in
       let l = j .before .before .before .loop in
-      Here (codeOf (a .code .now) (a .registers)) (a .from) (a .room) (a .inside) (a .in-loop) (l .at) (l .part) (j .judge .result)
+      Here (codeOf (a .code .now) (a .reading)) (a .from) (a .room) (a .inside) (a .in-loop) (l .at) (l .part) (j .judge .result)
   here j =
       let a = j .before .before .before .before .before .args in
       let l = j .before .before .before .loop in
       record {
-        fits = code-fits (a .code .now) (a .registers);
+        fits = code-fits (a .code .now) (a .reading);
         in-code = j .before .before .loop-test .taken;
         along = l .inv;
-        turn = turned (codeOf (a .code .now) (a .registers)) (l .at) (a .room) (l .part) (a .in-loop) (j .before .look .ensures) (j .judge .ensures);
+        turn = turned (codeOf (a .code .now) (a .reading)) (l .at) (a .room) (l .part) (a .in-loop) (j .before .look .ensures) (j .judge .ensures);
       }
 
   loop-holds : level-lts.Need-loop-holds (calls t) (level-at t) level.Post Inv-loop μ-loop
-  loop-holds c = started (codeOf (c .before .args .code .now) (c .before .args .registers)) _ _ _ _ (c .before .pre .1)
+  loop-holds c = started (codeOf (c .before .args .code .now) (c .before .args .reading)) _ _ _ _ (c .before .pre .1)
 
   look-requires : level-lts.Need-look-requires (calls t) (level-at t) level.Post Inv-loop μ-loop
   look-requires c κs = search needs
@@ -134,7 +134,7 @@ module _ (t : ℕ) where
       inner-end (here (k .before .before .before .before)) (k .before .before .turn3 .given .1) (k .level .ensures) (c .enum-told2 .given .1)
 
   returns-5 : level-lts.Need-returns-5 (calls t) (level-at t) level.Post Inv-loop μ-loop
-  returns-5 c = at-the-end (code-fits (c .before .before .before .args .code .now) (c .before .before .before .args .registers)) (c .before .loop .inv) (c .loop-test .left)
+  returns-5 c = at-the-end (code-fits (c .before .before .before .args .code .now) (c .before .before .before .args .reading)) (c .before .loop .inv) (c .loop-test .left)
 
 pub +level-spec : {M : Type 1} → statement M
 +level-spec = close μ-level λ t. level-lts.spec (calls t) (level-at t) level.Post Inv-loop μ-loop

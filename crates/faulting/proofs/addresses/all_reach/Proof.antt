@@ -7,6 +7,8 @@ use lib.Bits.{bitOr}
 use lib.Dec.{eqb, leb}
 use lib.ListN.{length, getD, take, drop}
 use lib.Seq.{length-take-le, getD-take}
+use mir.Syntax.{w32}
+use mir.Val.{Fits}
 use borrow.Author.Needs.{needs}
 use borrow.Author.Tests.{le-leb}
 use Rattle.ground.specs.Tests.{allOf}
@@ -29,6 +31,12 @@ loop-holds c = rw (le-leb 0 (c .args .words) (omega arith)) refl
 wide : (z : tie.Start Inv-loop μ-loop) → length (take (z .args .width) (z .args .t1)) ≡ z .args .width
 wide z = let e : length (z .args .t1) ≡ 32 = search needs in length-take-le (z .args .width) (z .args .t1) (omega (arith, e, z .pre))
 
+-- an address is a number of 32 bits, and so is one more than the word that it names
+next-word : tie.Need-add-larger Inv-loop μ-loop
+next-word c =
+    let f : Fits w32 (getD (c .before .before .args .t1) (c .before .loop .k) 0) = search needs in
+    omega (arith, f .fits)
+
 loop-again : tie.Need-loop-again Inv-loop μ-loop
 loop-again c =
     let h = c .before .before .loop in
@@ -50,5 +58,5 @@ returns c =
 
 pub all-reach-spec : {M : Type 1} → statement M
 all-reach-spec = tie.close (tie.spec
-    Inv-loop μ-loop loop-holds (λ c. omega arith) (λ c. omega arith) (λ c. search needs) (λ c κs. search needs) (λ c. omega arith) (λ c. omega arith)
+    Inv-loop μ-loop loop-holds (λ c. omega arith) (λ c. omega arith) next-word (λ c κs. search needs) (λ c. omega arith) (λ c. omega arith)
     loop-again returns)

@@ -1,5 +1,5 @@
 -- The numbers of the head and those of the state, one behind the other, are those of the parts: `put-stands`.
-use Rattle.key.proofs.Bodies.{head-place, put-stands, put-small}
+use Rattle.key.proofs.Bodies.{head-place, put-stands, put-room}
 use borrow.Author.Needs.{needs}
 use Rattle.key.proofs.putting.put_body.Statement.{statement}
 use Rattle.key.proofs.putting.put_body.Tie as tie
@@ -15,7 +15,7 @@ returns c =
     let h = c .before .before .before .before .before .before in
     let a = h .before .before .before .args in
     record {
-      small = put-small (a .kernel) (a .f) (a .state) (h .put-head .ensures .1) (state .1);
+      room = put-room (a .kernel) (a .f) (a .state) (h .put-head .ensures .1) (state .1);
       stands = put-stands (a .kernel) (a .f) (a .state) _ _ _ _ (h .put-head .ensures .0) (state .0);
     }
 

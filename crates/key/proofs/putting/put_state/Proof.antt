@@ -12,7 +12,7 @@ use Rattle.key.proofs.putting.put_state.Tie as tie
 
 -- from where the blocks are lent, back to where the array's length is known, and to the start
 abbrev known : tie.After-blocks4 → tie.After-whole
-known z = z .before .before .before .before .before .before .before .before .before .before .before .before .before .before
+known z = z .before .before .before .before .before .before .before .before .before .before .before .before .before .before .before
 
 abbrev start : tie.After-whole → tie.Start
 start z = z .before .before .before .before .before
@@ -22,15 +22,12 @@ lent : (z : tie.After-whole) → let s = start z .args .state in
     length (take (blockNumbers * s .hot .depth) (s .blocks)) ≡ blockNumbers * s .hot .depth
 lent z = length-take-le _ _ (omega (arith, z .whole .ensures, start z .pre .0))
 
-slice-aggregate-put-numbers : tie.Need-slice-aggregate-put-numbers
-slice-aggregate-put-numbers c = sym (lent (known c))
-
-put-numbers-requires : tie.Need-put-numbers-requires
-put-numbers-requires c κs = let w = known (c .before) in omega (arith, lent w, start w .pre .0, start w .pre .1)
+slice-aggregate-put-words : tie.Need-slice-aggregate-put-words
+slice-aggregate-put-words c = sym (lent (known c))
 
 returns : tie.Need-returns
 returns c =
-    let blocks = c .before .before .put-numbers .ensures in
+    let blocks = c .before .before .put-words .ensures in
     let sets = c .before .before .before .before .before .struct-known .given in
     let third = c .before .before .before .before .before .before .before .before in
     let second = third .before .before .before .before in
@@ -45,5 +42,5 @@ returns c =
 pub put-state-spec : {M : Type 1} → statement M
 put-state-spec = tie.close (tie.spec
     (λ c κs. search needs) (λ c κs. search needs) (λ c. search needs) (λ c κs. search needs) (λ c. search needs) (λ c κs. search needs)
-    (λ c. search needs) (λ c. search needs) (λ c. search needs) slice-aggregate-put-numbers (λ c. search needs) put-numbers-requires
+    (λ c. search needs) (λ c. search needs) (λ c. search needs) (λ c. search needs) slice-aggregate-put-words (λ c κs. search needs)
     (λ c. search needs) returns)

@@ -1,6 +1,7 @@
 -- One field behind the other.
 use native.Mathlib.Omega.{arith}
-use Rattle.listing.proofs.Putting.{puts-join, field-near}
+use Rattle.numbers.proofs.Placing.{puts-join}
+use Rattle.listing.proofs.Putting.{field-near}
 use borrow.Author.Needs.{needs}
 use Rattle.listing.proofs.field.put_two.Statement.{statement}
 use Rattle.listing.proofs.field.put_two.Tie as tie

@@ -17,27 +17,25 @@ put-kinds-requires c κs = (search needs, omega (arith, two-near))
 kinds-end : (z : tie.After-put-kinds) → z .put-kinds .result ≤ z .before .before .before .before .put-two2 .result + 42
 kinds-end z =
     let two = z .before .before .before .before in
-    let body = two .before .before .before .before .before .before .before .before .before .before .before .before .pre .0 in
+    let body = two .before .before .before .before .before .before .before .before .before .before .pre .0 in
     kinds-near _ body (z .put-kinds .ensures)
 
 put-field-requires : tie.Need-put-field-requires
-put-field-requires c κs = omega (arith, two-near, kinds-end (c .before .before .before))
+put-field-requires c κs = omega (arith, two-near, kinds-end (c .before .before .before .before))
 
 returns : tie.Need-returns
 returns c =
     let last = c .before .before in
-    let kinds = last .before .before .before .before in
+    let depth = last .before in
+    let kinds = depth .before .before .before .before in
     let two = kinds .before .before .before .before in
-    let one = two .before .before .before .before in
-    let depth = one .before .before in
-    let count = depth .before in
-    let place = count .before in
+    let place = two .before in
     let kernel = place .before in
-    line-puts _ _ _ (kernel .get .ensures) (place .get2 .ensures) (count .get3 .ensures) (depth .get4 .ensures)
+    let one = kernel .before .before .before .before in
+    line-puts _ _ _ (kernel .kernel .ensures) (place .place .ensures) (depth .depth .ensures)
     (one .put-two .ensures) (two .put-two2 .ensures) (kinds .put-kinds .ensures) (last .put-field .ensures)
 
 pub put-line-spec : {M : Type 1} → statement M
 put-line-spec = tie.close (tie.spec
-    (λ c κs. search needs) (λ c. search needs) (λ c κs. search needs) (λ c. search needs) (λ c κs. search needs) (λ c. search needs)
-    (λ c. search needs) (λ c. search needs) (λ c κs. search needs) (λ c. search needs) (λ c κs. search needs) put-two-requires-2
-    put-kinds-requires put-field-requires (λ c. search needs) returns)
+    (λ c κs. search needs) (λ c κs. search needs) (λ c. search needs) (λ c κs. search needs) (λ c. search needs) put-two-requires-2
+    put-kinds-requires (λ c κs. search needs) (λ c. search needs) put-field-requires (λ c. search needs) returns)

@@ -1,6 +1,7 @@
 -- One text behind the other.
 use native.Mathlib.Omega.{arith}
-use Rattle.naming.proofs.Packing.{puts-join, puts-same, puts-near}
+use Rattle.numbers.proofs.Placing.{puts-join, puts-same}
+use Rattle.naming.proofs.Packing.{puts-near}
 use borrow.Author.Needs.{needs}
 use Rattle.naming.proofs.ending.put_ending.Statement.{statement}
 use Rattle.naming.proofs.ending.put_ending.Tie as tie

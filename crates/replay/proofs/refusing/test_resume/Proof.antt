@@ -9,9 +9,11 @@ returns c = stops (c .before .before .before .test-launch .ensures) _ (c .before
 
 returns-2 : tie.Need-returns-2
 returns-2 c =
-    let fine = c .before .before .before .before .before in
-    goes-on (fine .before .before .test-launch .ensures) _ (fine .enum-told .given .1) (rw (c .refuse-unless .ensures, c .before .fits2 .ensures))
+    let fit = c .before in
+    let read = fit .before .before in
+    let fine = read .before .before .before in
+    goes-on (fine .before .before .test-launch .ensures) _ (fine .enum-told .given .1) (rw (c .refuse-unless .ensures, fit .fits2 .ensures, read .reading-of .ensures))
 
 pub test-resume-spec : {M : Type 1} → statement M
 test-resume-spec = tie.close (tie.spec
-    (λ c κs. search needs) (λ c. search needs) (λ c. search needs) (λ c κs. search needs) (λ c κs. search needs) returns returns-2)
+    (λ c κs. search needs) (λ c. search needs) (λ c. search needs) (λ c κs. search needs) (λ c κs. search needs) (λ c κs. search needs) returns returns-2)

@@ -1,13 +1,12 @@
--- Laws of `each`: its length, one step of it, and when two readers give the same.
-use mathlib.Core.Path.{_≡_, refl, ap, ap₂, _∙_}
+-- Laws of `each`: its length, each of its things, and a test of them all, one after another.
+use mathlib.Core.Path.{_≡_, refl, sym, ap, _∙_}
 use Prim.Native.Nat.{ℕ, zero, suc, _+_, _*_, _-_, _≤_, _<_}
-use mathlib.Core.List.{_∷_}
 use mathlib.Core.Bool.{Bool, true, false, _&&_}
 use native.Mathlib.Omega.{arith}
 use native.Mathlib.Nat.{mul-suc}
-use lib.ListN.{length}
+use lib.ListN.{length, getD}
 use Rattle.ground.specs.Tests.{allOf}
-use Rattle.body.specs.Layout.{each}
+use Rattle.formats.specs.Places.{each}
 
 pub length-each : {A : Type 0} (f : ℕ → A) (step p n : ℕ) → length (each f step p n) ≡ n
 unfolding each
@@ -32,11 +31,11 @@ unfolding each allOf
 all-end t f step p zero h = refl
 all-end t f step p (suc n) h = absurd (omega arith)
 
--- readers that agree on what lies before `end`
-pub each-same : {A : Type 0} (f g : ℕ → A) (step end : ℕ) → ((q : ℕ) → q + step ≤ end → f q ≡ g q)
-    → (n p : ℕ) → p + step * n ≤ end → each f step p n ≡ each g step p n
+pub getD-each : {A : Type 0} (f : ℕ → A) (step p n k : ℕ) (d : A) → k < n → getD (each f step p n) k d ≡ f (p + step * k)
 unfolding each
-each-same f g step end h zero p l = refl
-each-same f g step end h (suc n) p l =
-    let e = mul-suc step n in
-    ap₂ _∷_ (h p (omega arith)) (each-same f g step end h n (p + step) (omega arith))
+getD-each f step p zero k d h = absurd (omega arith)
+getD-each f step p (suc n) zero d h = let e : p + step * 0 ≡ p = omega arith in ap f (sym e)
+getD-each f step p (suc n) (suc k) d h =
+    let m = mul-suc step k in
+    let e : p + step + step * k ≡ p + step * suc k = omega arith in
+    getD-each f step (p + step) n k d (omega arith) ∙ ap f e

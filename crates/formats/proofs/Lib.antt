@@ -1,0 +1,6 @@
+pub mod Lawful
+pub mod Digits
+pub mod Combined
+pub mod Each
+pub mod Sizes
+pub mod Words
