@@ -15,9 +15,12 @@ use crate::states::outcome_of;
 use crate::states::state_at;
 use key::answer::KeyAnswer;
 use key::write_key;
+use lanes::WIDEST;
 use replay::answers::Replayed;
 use replay::doors::launch;
 use replay::doors::resume;
+use replay::settings::MOST_REGISTERS;
+use replay::settings::MOST_WORDS;
 use replay::settings::Settings;
 use std::num::wrapping_add_usize;
 
@@ -26,10 +29,10 @@ const RUN_WORDS: usize = 44;
 
 const KEY_STATE: usize = 40;
 
-// The most words that a case has of code, of registers, and of each memory.
-const MOST_CODE: usize = 65537;
+// The most words that a case has of code and of registers, each one more than a run takes, and of each memory.
+const MOST_CODE: usize = MOST_WORDS + 1;
 
-const MOST_REGISTERS: usize = 8193;
+const MOST_LANE_WORDS: usize = (WIDEST as usize) * (MOST_REGISTERS as usize) + 1;
 
 const MOST_MEMORY: usize = 2048;
 
@@ -164,9 +167,9 @@ fn with_registers(case: &[u8], at: usize, code: &[u32], regs: &mut [u32], out: &
 // The run with the words of the code, which are the first.
 fn with_code(case: &[u8], code: &mut [u32], out: &mut [u8]) -> usize {
     let next = take_words(case, RUN_WORDS, code);
-    let mut words = [0u32; MOST_REGISTERS];
+    let mut words = [0u32; MOST_LANE_WORDS];
     let n = number(case, 6) as usize;
-    if n <= MOST_REGISTERS {
+    if n <= MOST_LANE_WORDS {
         return with_registers(case, next, code, &mut words[..n], out);
     }
     0

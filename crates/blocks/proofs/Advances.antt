@@ -16,7 +16,7 @@ use Rattle.blocks.specs.declared.places.Moved.{Moved}
 use Rattle.blocks.specs.Code.{Code}
 use Rattle.blocks.specs.Scan.{nesting, Part, Open, open-at, Next, over, go, ended, react, step}
 use Rattle.blocks.specs.Rules.{turnOf}
-use Rattle.blocks.specs.Levels.{around, Stands}
+use Rattle.blocks.specs.Levels.{around, InLevel}
 use Rattle.blocks.specs.Nesting.{innermost}
 use Rattle.blocks.specs.Stacks.{Holds, Turned, Advances, partOf}
 use Rattle.blocks.proofs.Widths.{Fits}
@@ -46,7 +46,7 @@ entered-is (open-at j p ∷ n) o k at e f g =
     ap (λ (x : Part). open-at x p ∷ n) i ∙ ap (λ (x : ℕ). open-at (partOf k) x ∷ n) q ∙ ap (λ (x : List Open). open-at (partOf k) at ∷ x) f
 
 module _ {code : Code} {at : ℕ} {s : Stack} {part : Inside} {l : Bool} {u : Turn} (j : Ready code at s part l u) where
-  standing : (o : List Open) → Holds s o → Stands (nesting - s .depth) part l o
+  standing : (o : List Open) → Holds s o → InLevel (nesting - s .depth) part l o
   standing o h =
       record {
         inside-is = sym (j .inside o h);

@@ -17,7 +17,7 @@ use Rattle.blocks.specs.declared.item.Reading.{Reading}
 use Rattle.blocks.specs.declared.rules.Inside.{Inside}
 use Rattle.blocks.specs.declared.structure.Checked.the-variants.{Refused}
 use Rattle.blocks.specs.Code.{Code, codeOf}
-use Rattle.blocks.specs.Scan.{nesting, Part, before, after, looping, Open, open-at, in-loop}
+use Rattle.blocks.specs.Scan.{nesting, Part, before, after, looping, Open, open-at, inLoop}
 use Rattle.blocks.specs.Scan.{Next, over, go, stray, ended, react, step, carry, run, checkOf}
 use Rattle.blocks.specs.Nesting.{innermost}
 use Rattle.blocks.specs.Nesting.{nothing, Opened, outside, Broken, at-words, at-instruction, at-end}
@@ -81,7 +81,7 @@ stopped-opening i part o at l f =
     (λ h. rw (lt-ltb (length o) nesting h) tt)
     (λ h. rw (le-ltb (length o) nesting (omega arith)) (_, refl, inr (f (omega arith))))
 
-stopped-jump : (o : List Open) (at : ℕ) (b : Bool) → in-loop o ≡ b → Stopped Item.Jump o at (cond b (go (at + 1) o) (stray at))
+stopped-jump : (o : List Open) (at : ℕ) (b : Bool) → inLoop o ≡ b → Stopped Item.Jump o at (cond b (go (at + 1) o) (stray at))
 stopped-jump o at true e = tt
 stopped-jump o at false e = (_, refl, inr (stray-jump e))
 
@@ -108,7 +108,7 @@ stopped Item.Endif (open-at before p ∷ o) at l = tt
 stopped Item.Endif (open-at after p ∷ o) at l = tt
 stopped Item.Endif (open-at looping p ∷ o) at l = (_, refl, inr (stray-endif (other _ _ (λ e. omega arith)) (other _ _ (λ e. omega arith))))
 stopped Item.Loop o at l = stopped-opening Item.Loop looping o at l deep-loop
-stopped Item.Jump o at l = stopped-jump o at (in-loop o) refl
+stopped Item.Jump o at l = stopped-jump o at (inLoop o) refl
 stopped Item.Endloop [] at l = (_, refl, inr (stray-endloop (other _ _ (λ e. omega arith))))
 stopped Item.Endloop (open-at before p ∷ o) at l = (_, refl, inr (stray-endloop (other _ _ (λ e. omega arith))))
 stopped Item.Endloop (open-at after p ∷ o) at l = (_, refl, inr (stray-endloop (other _ _ (λ e. omega arith))))

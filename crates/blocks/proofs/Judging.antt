@@ -14,10 +14,10 @@ use Rattle.blocks.specs.declared.rules.Turn.{Turn}
 use Rattle.blocks.specs.declared.rules.Turn.the-variants.{Go, Close, Enter, Stop}
 use Rattle.blocks.specs.declared.structure.Checked.the-variants.{Refused}
 use Rattle.blocks.specs.Code.{Code}
-use Rattle.blocks.specs.Scan.{nesting, Part, before, after, looping, Open, open-at, Next, over, go, stray, opens, in-loop, ended, react}
+use Rattle.blocks.specs.Scan.{nesting, Part, before, after, looping, Open, open-at, Next, over, go, stray, opens, inLoop, ended, react}
 use Rattle.blocks.specs.OpenAt.{loops}
 use Rattle.blocks.specs.Rules.{opening, turnOf}
-use Rattle.blocks.specs.Levels.{around, Stands}
+use Rattle.blocks.specs.Levels.{around, InLevel}
 use Rattle.blocks.specs.Nesting.{insideOf, innermost}
 use Rattle.blocks.proofs.Widths.{Ok, Fits}
 
@@ -25,7 +25,7 @@ use Rattle.blocks.proofs.Widths.{Ok, Fits}
 pub record Gone (at w room : ℕ) (inside : Inside) (l : Bool) (o : List Open) (x : Next) : Type 0 where
   pub now-open : List Open
   pub goes : x ≡ go (at + w) now-open
-  pub stands : Stands room inside l now-open
+  pub stands : InLevel room inside l now-open
   pub round : around now-open ≡ around o
   pub at-end : ended now-open ≡ ended o
   pub loops-same : loops now-open ≡ loops o
@@ -35,7 +35,7 @@ pub record Entered (at room : ℕ) (inside : Inside) (l : Bool) (o : List Open) 
   pub now-open : List Open
   pub goes : x ≡ go (at + 1) now-open
   pub left : 1 ≤ room
-  pub stands : Stands (room - 1) inside l now-open
+  pub stands : InLevel (room - 1) inside l now-open
   pub round : around now-open ≡ o
   pub at-end : ended now-open ≡ Refused (broken Rule.unclosed at)
 
@@ -47,12 +47,12 @@ Tells at room l o x (Enter inside b) = Entered at room inside b o x
 Tells at room l o x (Stop r) = x ≡ over (Refused r)
 
 -- the same blocks stay open
-stayed : (at w room : ℕ) (o : List Open) → length o + room ≡ nesting → Gone at w room (innermost o) (in-loop o) o (go (at + w) o)
+stayed : (at w room : ℕ) (o : List Open) → length o + room ≡ nesting → Gone at w room (innermost o) (inLoop o) o (go (at + w) o)
 stayed at w room o h =
     record { now-open = o; goes = refl; stands = record { inside-is = refl; room-is = h; loop-is = refl }; round = refl; at-end = refl; loops-same = refl }
 
 entered : (part : Part) (at room : ℕ) (o : List Open) → length o + room ≡ nesting
-    → Tells at room (in-loop o) o (opens part at o) (opening at room (insideOf part) (in-loop (open-at part at ∷ o)))
+    → Tells at room (inLoop o) o (opens part at o) (opening at room (insideOf part) (inLoop (open-at part at ∷ o)))
 unfolding innermost around ended
 entered part at zero o h = simp (le-ltb (length o) nesting (omega arith))
 entered part at (suc r) o h =
@@ -67,13 +67,13 @@ entered part at (suc r) o h =
     })
 
 jumped : (b : Bool) (at room : ℕ) (o : List Open) → length o + room ≡ nesting
-    → Tells at room (in-loop o) o (cond b (go (at + 1) o) (stray at)) (cond b (Go 1 (innermost o)) (Stop (broken Rule.stray at)))
+    → Tells at room (inLoop o) o (cond b (go (at + 1) o) (stray at)) (cond b (Go 1 (innermost o)) (Stop (broken Rule.stray at)))
 jumped true at room o h = stayed at 1 room o h
 jumped false at room o h = refl
 
 judged : (i : Item) (at room : ℕ) (o : List Open) → length o + room ≡ nesting
-    → Tells at room (in-loop o) o (react i at o) (turnOf i at room (innermost o) (in-loop o))
-unfolding react innermost around ended in-loop loops
+    → Tells at room (inLoop o) o (react i at o) (turnOf i at room (innermost o) (inLoop o))
+unfolding react innermost around ended inLoop loops
 judged (Item.Plain w) at room o h = stayed at w room o h
 judged Item.If at room o h = entered before at room o h
 judged Item.Else at room [] h = refl
@@ -93,7 +93,7 @@ judged Item.Endif at room (open-at before p ∷ o) h = refl
 judged Item.Endif at room (open-at after p ∷ o) h = refl
 judged Item.Endif at room (open-at looping p ∷ o) h = refl
 judged Item.Loop at room o h = entered looping at room o h
-judged Item.Jump at room o h = jumped (in-loop o) at room o h
+judged Item.Jump at room o h = jumped (inLoop o) at room o h
 judged Item.Endloop at room [] h = refl
 judged Item.Endloop at room (open-at before p ∷ o) h = refl
 judged Item.Endloop at room (open-at after p ∷ o) h = refl
@@ -101,7 +101,7 @@ judged Item.Endloop at room (open-at looping p ∷ o) h = refl
 judged (Item.Bad r) at room o h = refl
 
 -- the same, of whatever the function was called with
-pub told : (i : Item) (at room : ℕ) (inside : Inside) (l : Bool) (o : List Open) → Stands room inside l o → (t : Turn) → turnOf i at room inside l ≡ t
+pub told : (i : Item) (at room : ℕ) (inside : Inside) (l : Bool) (o : List Open) → InLevel room inside l o → (t : Turn) → turnOf i at room inside l ≡ t
     → Tells at room l o (react i at o) t
 told i at room inside l o s t e =
     subst (λ (u : Turn). Tells at room l o (react i at o) u) e

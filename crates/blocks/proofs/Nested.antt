@@ -15,7 +15,7 @@ use Rattle.blocks.specs.declared.item.Item.{Item}
 use Rattle.blocks.specs.declared.item.Reading.{Reading}
 use Rattle.blocks.specs.declared.structure.Checked.the-variants.{Fine, Refused}
 use Rattle.blocks.specs.Code.{Code, codeOf}
-use Rattle.blocks.specs.Scan.{nesting, Part, before, after, looping, Open, open-at, in-loop}
+use Rattle.blocks.specs.Scan.{nesting, Part, before, after, looping, Open, open-at, inLoop}
 use Rattle.blocks.specs.Scan.{Next, over, go, stray, ended, react, step, carry, run, checkOf}
 use Rattle.blocks.specs.OpenAt.{there, openAt}
 use Rattle.blocks.specs.Nesting.{Has, Whole, nothing, plain, jump, choice, choice-of-two, loop, Nested}
@@ -40,9 +40,9 @@ module _ (words : List ℕ) (by : Reading) (P : ℕ → List Open → Type 0)
       → P at o → P (at + 1) (open-at part at ∷ o)
   entered i part at o h e b = moved i at o (at + 1) (open-at part at ∷ o) h (e ∙ rw (lt-ltb (length o) nesting b) refl)
 
-  passed : (room : ℕ) (looped : Bool) (at to : ℕ) → Whole words by room looped at to → (o : List Open) → length o + room ≡ nesting → in-loop o ≡ looped
+  passed : (room : ℕ) (looped : Bool) (at to : ℕ) → Whole words by room looped at to → (o : List Open) → length o + room ≡ nesting → inLoop o ≡ looped
       → P at o → P to o
-  unfolding react in-loop
+  unfolding react inLoop
   passed room looped at to nothing o r l p = p
   passed room looped at to (plain w h rest) o r l p =
       passed room looped (at + w) to rest o r l (moved (Item.Plain w) at o (at + w) o h refl p)
@@ -68,18 +68,18 @@ module _ (words : List ℕ) (by : Reading) (P : ℕ → List Open → Type 0)
 
   -- so it holds wherever these blocks are open
   pub at-opened : P 0 [] → (room : ℕ) (o : List Open) (at : ℕ) → Opened words by room o at → (length o + room ≡ nesting) × P at o
-  unfolding react in-loop
+  unfolding react inLoop
   at-opened s room o at (outside w) = (refl, passed nesting false 0 at w [] refl refl s)
   at-opened s room (open-at before p ∷ o) at (in-first _ x h w) =
       let z = at-opened s (suc room) o p x in (
         omega (arith, z .0),
-        passed room (in-loop o) (p + 1) at w (open-at before p ∷ o) (omega (arith, z .0)) refl
+        passed room (inLoop o) (p + 1) at w (open-at before p ∷ o) (omega (arith, z .0)) refl
             (entered Item.If before p o h refl (omega (arith, z .0)) (z .1)),
       )
   at-opened s room (open-at after p ∷ o) at (in-second _ other x h w) =
       let z = at-opened s room (open-at before p ∷ o) other x in (
         z .0,
-        passed room (in-loop o) (other + 1) at w (open-at after p ∷ o) (z .0) refl
+        passed room (inLoop o) (other + 1) at w (open-at after p ∷ o) (z .0) refl
             (moved Item.Else other (open-at before p ∷ o) (other + 1) (open-at after p ∷ o) h refl (z .1)),
       )
   at-opened s room (open-at looping p ∷ o) at (in-body _ x h w) =
@@ -109,11 +109,11 @@ module _ (words : List ℕ) (by : Reading) where
   append (suc room) looped at next to (loop end h body f rest) v = loop end h body f (append (suc room) looped (end + 1) next to rest v)
 
   -- whole blocks further
-  onward : (room : ℕ) (o : List Open) (at to : ℕ) → Opened words by room o at → Whole words by room (in-loop o) at to → Opened words by room o to
-  unfolding in-loop
+  onward : (room : ℕ) (o : List Open) (at to : ℕ) → Opened words by room o at → Whole words by room (inLoop o) at to → Opened words by room o to
+  unfolding inLoop
   onward room o at to (outside w) v = outside (append nesting false 0 at to w v)
-  onward room (open-at before p ∷ o) at to (in-first _ x h w) v = in-first p x h (append room (in-loop o) (p + 1) at to w v)
-  onward room (open-at after p ∷ o) at to (in-second _ other x h w) v = in-second p other x h (append room (in-loop o) (other + 1) at to w v)
+  onward room (open-at before p ∷ o) at to (in-first _ x h w) v = in-first p x h (append room (inLoop o) (p + 1) at to w v)
+  onward room (open-at after p ∷ o) at to (in-second _ other x h w) v = in-second p other x h (append room (inLoop o) (other + 1) at to w v)
   onward room (open-at looping p ∷ o) at to (in-body _ x h w) v = in-body p x h (append room true (p + 1) at to w v)
 
   -- a block that closes is one whole block more
@@ -140,7 +140,7 @@ module _ (words : List ℕ) (by : Reading) where
   led-in part at zero o l f = rw (le-ltb (length o) nesting (omega arith)) tt
   led-in part at (suc room) o l f = rw (lt-ltb (length o) nesting (omega arith)) (room, f room refl)
 
-  led-jump : (at room : ℕ) (o : List Open) → Has words by at Item.Jump → Opened words by room o at → (b : Bool) → in-loop o ≡ b
+  led-jump : (at room : ℕ) (o : List Open) → Has words by at Item.Jump → Opened words by room o at → (b : Bool) → inLoop o ≡ b
       → Led (cond b (go (at + 1) o) (stray at))
   led-jump at room o h x true e = (room, onward room o at (at + 1) x (rw e (jump h nothing)))
   led-jump at room o h x false e = tt
@@ -166,7 +166,7 @@ module _ (words : List ℕ) (by : Reading) where
   led Item.Loop at room o h x =
       led-in looping at room o (opened-room words by room o at x)
       (λ inner e. in-body at (rw e at x) (has words by at (h .0) Item.Loop tt (h .1)) nothing)
-  led Item.Jump at room o h x = led-jump at room o (has words by at (h .0) Item.Jump tt (h .1)) x (in-loop o) refl
+  led Item.Jump at room o h x = led-jump at room o (has words by at (h .0) Item.Jump tt (h .1)) x (inLoop o) refl
   led Item.Endloop at room [] h x = tt
   led Item.Endloop at room (open-at before p ∷ o) h x = tt
   led Item.Endloop at room (open-at after p ∷ o) h x = tt

@@ -13,7 +13,7 @@ use Rattle.refusals.specs.Table.{Rule, broken}
 use Rattle.blocks.specs.declared.item.Item.{Item}
 use Rattle.blocks.specs.declared.structure.Checked.the-variants.{Refused}
 use Rattle.blocks.specs.Code.{Code}
-use Rattle.blocks.specs.Scan.{nesting, Part, before, after, looping, Open, open-at, Next, over, go, stray, in-loop, react, step}
+use Rattle.blocks.specs.Scan.{nesting, Part, before, after, looping, Open, open-at, Next, over, go, stray, inLoop, react, step}
 use Rattle.blocks.specs.OpenAt.{there, openAt}
 use Rattle.blocks.proofs.Widths.{Fits}
 use Rattle.blocks.proofs.Passes.{step-in, step-past}
@@ -90,7 +90,7 @@ module _ (code : Code) (fits : Fits code) where
   react-opened Item.Endif at (open-at after p ∷ o) h i k e = (k .opened .1, omega (arith, k .room))
   react-opened Item.Endif at (open-at looping p ∷ o) h i k e = tt
   react-opened Item.Loop at o h i k e = opens-opened looping at o refl h i k (ltb (length o) nesting) refl e
-  react-opened Item.Jump at o h i k e = jump-opened at o k (in-loop o)
+  react-opened Item.Jump at o h i k e = jump-opened at o k (inLoop o)
   react-opened Item.Endloop at [] h i k e = tt
   react-opened Item.Endloop at (open-at before p ∷ o) h i k e = tt
   react-opened Item.Endloop at (open-at after p ∷ o) h i k e = tt

@@ -12,7 +12,7 @@ use Rattle.blocks.specs.declared.item.Item.{Item}
 use Rattle.blocks.specs.declared.structure.Checked.{Checked}
 use Rattle.blocks.specs.declared.structure.Checked.the-variants.{Refused}
 use Rattle.blocks.specs.Code.{Code}
-use Rattle.blocks.specs.Scan.{nesting, before, after, looping, Open, open-at, Next, over, go, stray, in-loop, ended, react, step, carry, scan, run}
+use Rattle.blocks.specs.Scan.{nesting, before, after, looping, Open, open-at, Next, over, go, stray, inLoop, ended, react, step, carry, scan, run}
 use Rattle.blocks.proofs.Widths.{Fits, Ok}
 
 -- the pass moves on, and stays in the code
@@ -39,7 +39,7 @@ react-moves Item.Endif at size (open-at after p ∷ o) ok h = omega arith
 react-moves Item.Endif at size (open-at looping p ∷ o) ok h = tt
 react-moves Item.Loop at size o ok h =
     cond-moves at size (ltb (length o) nesting) (go (at + 1) (open-at looping at ∷ o)) (over (Refused (broken Rule.depth at))) (λ _. omega arith) (λ _. tt)
-react-moves Item.Jump at size o ok h = cond-moves at size (in-loop o) (go (at + 1) o) (stray at) (λ _. omega arith) (λ _. tt)
+react-moves Item.Jump at size o ok h = cond-moves at size (inLoop o) (go (at + 1) o) (stray at) (λ _. omega arith) (λ _. tt)
 react-moves Item.Endloop at size [] ok h = tt
 react-moves Item.Endloop at size (open-at before p ∷ o) ok h = tt
 react-moves Item.Endloop at size (open-at after p ∷ o) ok h = tt

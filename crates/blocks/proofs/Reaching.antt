@@ -12,9 +12,9 @@ use Rattle.blocks.specs.declared.rules.Turn.the-variants.{Go, Close, Ent
 use Rattle.blocks.specs.declared.structure.LevelEnd.{LevelEnd}
 use Rattle.blocks.specs.declared.structure.Checked.the-variants.{Fine, Refused}
 use Rattle.blocks.specs.Code.{Code}
-use Rattle.blocks.specs.Scan.{nesting, Open, open-at, over, go, in-loop, ended, react, run, checkOf}
+use Rattle.blocks.specs.Scan.{nesting, Open, open-at, over, go, inLoop, ended, react, run, checkOf}
 use Rattle.blocks.specs.Rules.{turnOf}
-use Rattle.blocks.specs.Levels.{around, Stands, follows, LevelSays}
+use Rattle.blocks.specs.Levels.{around, InLevel, follows, LevelSays}
 use Rattle.blocks.specs.Nesting.{innermost}
 use Rattle.blocks.proofs.Widths.{Fits}
 use Rattle.blocks.proofs.Passes.{run-to, run-past}
@@ -24,14 +24,14 @@ use Rattle.blocks.proofs.Judging.{Gone, Entered, told, TurnOk, turned-o
 pub record Reached (code : Code) (from : ℕ) (o : List Open) (at room : ℕ) (inside : Inside) (l : Bool) : Type 0 where
   pub now-open : List Open
   pub same : run code from o ≡ run code at now-open
-  pub stands : Stands room inside l now-open
+  pub stands : InLevel room inside l now-open
   pub round : around now-open ≡ around o
   pub at-end : ended now-open ≡ ended o
 
 -- the loop's invariant, for every list of blocks that fits the level
 abbrev pub Along : Code → ℕ → ℕ → Inside → Bool → ℕ → Inside → Type 0
 Along code from room inside l at part =
-    (from ≤ at) × (at ≤ code .size) × ((o : List Open) → Stands room inside l o → Reached code from o at room part l)
+    (from ≤ at) × (at ≤ code .size) × ((o : List Open) → InLevel room inside l o → Reached code from o at room part l)
 
 pub started : (code : Code) (from room : ℕ) (inside : Inside) (l : Bool) → from ≤ code .size → Along code from room inside l from inside
 started code from room inside l h = (omega arith, h, λ o s. record { now-open = o; same = refl; stands = s; round = refl; at-end = refl })
@@ -159,8 +159,8 @@ at-the-end {code} {from} {room} {inside} {l} {at} {part} fits a h = record { wit
     same r = r .same ∙ run-past code fits at (r .now-open) h ∙ r .at-end
 
 -- outside every block there is all the room
-at-top : Stands nesting Inside.Nothing false []
-unfolding innermost in-loop
+at-top : InLevel nesting Inside.Nothing false []
+unfolding innermost inLoop
 at-top = record { inside-is = refl; room-is = refl; loop-is = refl }
 
 -- the whole code is a level

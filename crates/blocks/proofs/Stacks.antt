@@ -11,11 +11,11 @@ use Rattle.refusals.specs.Table.{Rule, broken}
 use Rattle.blocks.specs.declared.rules.Inside.{Inside}
 use Rattle.blocks.specs.declared.structure.Checked.the-variants.{Fine, Refused}
 use Rattle.blocks.specs.declared.places.Stack.{Stack}
-use Rattle.blocks.specs.Scan.{nesting, Part, before, after, looping, Open, open-at, in-loop, ended}
-use Rattle.blocks.specs.OpenAt.{part-number, number-of, opener-of, one-if-loop, loops, filled, stackOf}
+use Rattle.blocks.specs.Scan.{nesting, Part, before, after, looping, Open, open-at, inLoop, ended}
+use Rattle.blocks.specs.OpenAt.{partNumber, partNumberOf, openerOf, oneIfLoop, loops, filled, stackOf}
 use Rattle.blocks.specs.Levels.{around}
 use Rattle.blocks.specs.Nesting.{insideOf, innermost}
-use Rattle.blocks.specs.Stacks.{Holds, Turned, numberOf, insideFrom, partOf}
+use Rattle.blocks.specs.Stacks.{Holds, Turned, insideNumber, insideFrom, partOf}
 use Rattle.blocks.proofs.Refusing.{same-place}
 
 -- a stack that holds the blocks is their stack
@@ -58,37 +58,37 @@ filled-back f x o h =
     ∙ set-getD (filled f o) (length o) 0
 
 -- a block is put on
-pub push : (s : Stack) (o : List Open) (k : Inside) (at n m : ℕ) → Holds s o → s .depth < nesting → n ≡ numberOf k → m ≡ one-if-loop (partOf k) (s .loops)
+pub push : (s : Stack) (o : List Open) (k : Inside) (at n m : ℕ) → Holds s o → s .depth < nesting → n ≡ insideNumber k → m ≡ oneIfLoop (partOf k) (s .loops)
     → Holds (record { depth = s .depth + 1; loops = m; parts = set (s .parts) (s .depth) n; openers = set (s .openers) (s .depth) at }) (open-at (partOf k) at ∷ o)
 unfolding filled loops
 push s o k at n m h lt e f =
     record {
       depth-is = omega (arith, h .depth-is);
       at-most = omega (arith, h .depth-is);
-      loops-is = f ∙ ap (one-if-loop (partOf k)) (h .loops-is);
+      loops-is = f ∙ ap (oneIfLoop (partOf k)) (h .loops-is);
       parts-is = store (h .parts-is) (h .depth-is) e;
       openers-is = store (h .openers-is) (h .depth-is) refl;
     }
 
 -- a loop is one more loop, an IF is not
-pub one-more : (k : Inside) (n m : ℕ) → n ≡ numberOf k → n ≡ 3 → m + 1 ≡ one-if-loop (partOf k) m
+pub one-more : (k : Inside) (n m : ℕ) → n ≡ insideNumber k → n ≡ 3 → m + 1 ≡ oneIfLoop (partOf k) m
 one-more Inside.Nothing n m e f = absurd (omega arith)
 one-more Inside.Before n m e f = absurd (omega arith)
 one-more Inside.After n m e f = absurd (omega arith)
 one-more Inside.Loop n m e f = refl
 
-pub no-more : (k : Inside) (n m : ℕ) → n ≡ numberOf k → (n ≡ 3 → ⊥) → m ≡ one-if-loop (partOf k) m
+pub no-more : (k : Inside) (n m : ℕ) → n ≡ insideNumber k → (n ≡ 3 → ⊥) → m ≡ oneIfLoop (partOf k) m
 no-more Inside.Nothing n m e f = refl
 no-more Inside.Before n m e f = refl
 no-more Inside.After n m e f = refl
 no-more Inside.Loop n m e f = absurd (f e)
 
 -- the innermost block's part
-read-part : (s : Stack) (k : Part) (p : ℕ) (o : List Open) → Holds s (open-at k p ∷ o) → getD (s .parts) (s .depth - 1) 0 ≡ part-number k
+read-part : (s : Stack) (k : Part) (p : ℕ) (o : List Open) → Holds s (open-at k p ∷ o) → getD (s .parts) (s .depth - 1) 0 ≡ partNumber k
 read-part s k p o h =
     let d : s .depth - 1 ≡ length o = omega (arith, h .depth-is) in
-    ap (λ (l : List ℕ). getD l (s .depth - 1) 0) (h .parts-is) ∙ ap (λ (i : ℕ). getD (filled number-of (open-at k p ∷ o)) i 0) d
-    ∙ filled-top number-of (open-at k p) o (h .at-most)
+    ap (λ (l : List ℕ). getD l (s .depth - 1) 0) (h .parts-is) ∙ ap (λ (i : ℕ). getD (filled partNumberOf (open-at k p ∷ o)) i 0) d
+    ∙ filled-top partNumberOf (open-at k p) o (h .at-most)
 
 pub none-inside : (s : Stack) (o : List Open) → Holds s o → s .depth ≡ 0 → Inside.Nothing ≡ innermost o
 unfolding innermost
@@ -96,7 +96,7 @@ none-inside s [] h e = refl
 none-inside s (open-at k p ∷ o) h e = absurd (omega (arith, h .depth-is))
 
 -- what the innermost block is
-inside-of-number : (k : Part) → insideFrom (part-number k) ≡ insideOf k
+inside-of-number : (k : Part) → insideFrom (partNumber k) ≡ insideOf k
 inside-of-number before = refl
 inside-of-number after = refl
 inside-of-number looping = refl
@@ -118,8 +118,8 @@ pop s (open-at k p ∷ o) m h ne e =
       depth-is = d;
       at-most = omega arith;
       loops-is = e;
-      parts-is = store (h .parts-is) d refl ∙ filled-back number-of (open-at k p) o lt;
-      openers-is = store (h .openers-is) d refl ∙ filled-back opener-of (open-at k p) o lt;
+      parts-is = store (h .parts-is) d refl ∙ filled-back partNumberOf (open-at k p) o lt;
+      openers-is = store (h .openers-is) d refl ∙ filled-back openerOf (open-at k p) o lt;
     }
 
 pub pop-none : (s : Stack) (o : List Open) → Holds s o → s .depth ≡ 0 → Holds s (around o)
@@ -128,12 +128,12 @@ pop-none s [] h e = h
 pop-none s (open-at k p ∷ o) h e = absurd (omega (arith, h .depth-is))
 
 -- a loop is one loop less, an IF is not
-less-one : (k : Part) (m : ℕ) → part-number k ≡ 3 → one-if-loop k m - 1 ≡ m
+less-one : (k : Part) (m : ℕ) → partNumber k ≡ 3 → oneIfLoop k m - 1 ≡ m
 less-one before m e = absurd (omega arith)
 less-one after m e = absurd (omega arith)
 less-one looping m e = omega arith
 
-less-none : (k : Part) (m : ℕ) → (part-number k ≡ 3 → ⊥) → one-if-loop k m ≡ m
+less-none : (k : Part) (m : ℕ) → (partNumber k ≡ 3 → ⊥) → oneIfLoop k m ≡ m
 less-none before m e = refl
 less-none after m e = refl
 less-none looping m e = absurd (e refl)
@@ -164,7 +164,7 @@ turn-none s [] (open-at j p ∷ n) k h t e =
     absurd (omega arith)
 turn-none s (open-at j p ∷ o) n k h t e = absurd (omega (arith, h .depth-is))
 
-pub turn : (s : Stack) (o n : List Open) (k : Inside) (v : ℕ) → Holds s o → Turned k o n → (s .depth ≡ 0 → ⊥) → v ≡ numberOf k
+pub turn : (s : Stack) (o n : List Open) (k : Inside) (v : ℕ) → Holds s o → Turned k o n → (s .depth ≡ 0 → ⊥) → v ≡ insideNumber k
     → Holds (record { depth = s .depth; loops = s .loops; parts = set (s .parts) (s .depth - 1) v; openers = s .openers }) n
 unfolding ended innermost around filled
 turn s [] n k v h t ne e = absurd (ne (h .depth-is))
@@ -177,13 +177,13 @@ turn s (open-at j p ∷ o) (open-at i q ∷ n) k v h t ne e =
     let r : n ≡ o = t .round in
     let pq : p ≡ q = sym (same-place (broken Rule.unclosed q) (broken Rule.unclosed p) (t .at-end)) in
     let l : length o ≡ length n = ap length (sym r) in
-    let vi : v ≡ part-number i = e ∙ ap numberOf (sym (t .inside-is)) ∙ ap part-number (part-of-inside i) in
+    let vi : v ≡ partNumber i = e ∙ ap insideNumber (sym (t .inside-is)) ∙ ap partNumber (part-of-inside i) in
     record {
       depth-is = omega (arith, h .depth-is);
       at-most = omega (arith, h .at-most);
       loops-is = h .loops-is ∙ sym (t .loops-same);
-      parts-is = store (h .parts-is) d refl ∙ set-set (filled number-of o) (length o) (part-number j) v ∙ store (ap (filled number-of) (sym r)) l vi;
-      openers-is = h .openers-is ∙ store (ap (filled opener-of) (sym r)) l pq;
+      parts-is = store (h .parts-is) d refl ∙ set-set (filled partNumberOf o) (length o) (partNumber j) v ∙ store (ap (filled partNumberOf) (sym r)) l vi;
+      openers-is = h .openers-is ∙ store (ap (filled openerOf) (sym r)) l pq;
     }
 
 -- no more loops than blocks
@@ -195,8 +195,8 @@ loops-le (open-at after p ∷ o) = omega (arith, loops-le o)
 loops-le (open-at looping p ∷ o) = omega (arith, loops-le o)
 
 -- there is a loop exactly if their number is not 0
-pub in-loop-is : (o : List Open) → ltb 0 (loops o) ≡ in-loop o
-unfolding loops in-loop
+pub in-loop-is : (o : List Open) → ltb 0 (loops o) ≡ inLoop o
+unfolding loops inLoop
 in-loop-is [] = refl
 in-loop-is (open-at before p ∷ o) = in-loop-is o
 in-loop-is (open-at after p ∷ o) = in-loop-is o

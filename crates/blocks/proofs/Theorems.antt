@@ -17,7 +17,7 @@ use Rattle.refusals.specs.Table.{Rule, broken}
 use Rattle.blocks.specs.declared.item.Item.{Item}
 use Rattle.blocks.specs.declared.structure.Checked.the-variants.{Fine, Refused}
 use Rattle.blocks.specs.Code.{Code}
-use Rattle.blocks.specs.Scan.{nesting, Part, before, after, looping, Open, open-at, over, go, stray, in-loop, ended, react, carry, run, checkOf}
+use Rattle.blocks.specs.Scan.{nesting, Part, before, after, looping, Open, open-at, over, go, stray, inLoop, ended, react, carry, run, checkOf}
 use Rattle.blocks.specs.OpenAt.{there, openAt}
 use Rattle.blocks.proofs.Refusing.{refused-not-fine}
 use Rattle.blocks.proofs.Widths.{Ok, Fits}
@@ -55,7 +55,7 @@ Allowed code Item.If at o = (length o < nesting) × (openAt code (at + 1) ≡ th
 Allowed code Item.Else at o = ElseAllowed code at o
 Allowed code Item.Endif at o = EndifAllowed code at o
 Allowed code Item.Loop at o = (length o < nesting) × (openAt code (at + 1) ≡ there (open-at looping at ∷ o))
-Allowed code Item.Jump at o = (in-loop o ≡ true) × (openAt code (at + 1) ≡ there o)
+Allowed code Item.Jump at o = (inLoop o ≡ true) × (openAt code (at + 1) ≡ there o)
 Allowed code Item.Endloop at o = EndloopAllowed code at o
 Allowed code (Item.Bad r) at o = ⊥
 
@@ -105,8 +105,8 @@ module _ (code : Code) (fits : Fits code) (checked : checkOf code ≡ Fine) wher
     opener-allowed i part o e here true b f = (ltb-true (length o) nesting b, leads i o (at + 1) (open-at part at ∷ o) e here f)
     opener-allowed i part o e here false b f = refused i o _ e here f
 
-    jump-allowed : (o : List Open) → code .item at ≡ Item.Jump → openAt code at ≡ there o → (b : Bool) → in-loop o ≡ b
-        → react Item.Jump at o ≡ cond b (go (at + 1) o) (stray at) → (in-loop o ≡ true) × (openAt code (at + 1) ≡ there o)
+    jump-allowed : (o : List Open) → code .item at ≡ Item.Jump → openAt code at ≡ there o → (b : Bool) → inLoop o ≡ b
+        → react Item.Jump at o ≡ cond b (go (at + 1) o) (stray at) → (inLoop o ≡ true) × (openAt code (at + 1) ≡ there o)
     jump-allowed o e here true b f = (b, leads Item.Jump o (at + 1) o e here f)
     jump-allowed o e here false b f = refused Item.Jump o _ e here f
 
@@ -123,7 +123,7 @@ module _ (code : Code) (fits : Fits code) (checked : checkOf code ≡ Fine) wher
     item-allowed Item.Endif (open-at after p ∷ o) e here = leads Item.Endif (open-at after p ∷ o) (at + 1) o e here refl
     item-allowed Item.Endif (open-at looping p ∷ o) e here = refused Item.Endif (open-at looping p ∷ o) _ e here refl
     item-allowed Item.Loop o e here = opener-allowed Item.Loop looping o e here (ltb (length o) nesting) refl refl
-    item-allowed Item.Jump o e here = jump-allowed o e here (in-loop o) refl refl
+    item-allowed Item.Jump o e here = jump-allowed o e here (inLoop o) refl refl
     item-allowed Item.Endloop [] e here = refused Item.Endloop [] _ e here refl
     item-allowed Item.Endloop (open-at before p ∷ o) e here = refused Item.Endloop (open-at before p ∷ o) _ e here refl
     item-allowed Item.Endloop (open-at after p ∷ o) e here = refused Item.Endloop (open-at after p ∷ o) _ e here refl

@@ -9,7 +9,7 @@ use Rattle.blocks.specs.declared.rules.Inside.{Inside}
 use Rattle.blocks.specs.declared.structure.LevelEnd.{LevelEnd}
 use Rattle.blocks.specs.declared.structure.Checked.{Checked}
 use Rattle.blocks.specs.Code.{Code}
-use Rattle.blocks.specs.Scan.{nesting, Open, open-at, in-loop, ended, run}
+use Rattle.blocks.specs.Scan.{nesting, Open, open-at, inLoop, ended, run}
 use Rattle.blocks.specs.Nesting.{innermost}
 
 -- the blocks around the innermost
@@ -18,10 +18,10 @@ around [] = []
 around (open-at part p ∷ o) = o
 
 -- these blocks are open where a level has this room, is directly inside this, and in a loop or not
-pub record Stands (room : ℕ) (inside : Inside) (in-a-loop : Bool) (o : List Open) : Type 0 where
+pub record InLevel (room : ℕ) (inside : Inside) (in-a-loop : Bool) (o : List Open) : Type 0 where
   pub inside-is : innermost o ≡ inside
   pub room-is : length o + room ≡ nesting
-  pub loop-is : in-loop o ≡ in-a-loop
+  pub loop-is : inLoop o ≡ in-a-loop
 
 -- what the pass with the blocks o open comes to, from the answer for their innermost
 abbrev pub follows : Code → List Open → LevelEnd → Checked
@@ -44,5 +44,5 @@ Shut o LevelEnd.Ended = Unit {0}
 -- what `level` promises
 pub record LevelSays (code : Code) (from room : ℕ) (inside : Inside) (in-a-loop : Bool) (r : LevelEnd) : Type 0 where
   pub within : Within code from r
-  pub shut : (o : List Open) → Stands room inside in-a-loop o → Shut o r
-  pub same : (o : List Open) → Stands room inside in-a-loop o → run code from o ≡ follows code o r
+  pub shut : (o : List Open) → InLevel room inside in-a-loop o → Shut o r
+  pub same : (o : List Open) → InLevel room inside in-a-loop o → run code from o ≡ follows code o r

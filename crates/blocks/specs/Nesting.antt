@@ -14,7 +14,7 @@ use Rattle.blocks.specs.declared.item.Item.{Item}
 use Rattle.blocks.specs.declared.item.Reading.{Reading}
 use Rattle.blocks.specs.declared.rules.Inside.{Inside}
 use Rattle.blocks.specs.Item.{itemOf}
-use Rattle.blocks.specs.Scan.{nesting, Part, before, after, looping, Open, open-at, in-loop}
+use Rattle.blocks.specs.Scan.{nesting, Part, before, after, looping, Open, open-at, inLoop}
 
 -- an instruction of the code, with R registers, and what it is to the blocks: its words stand at the place, and none of its registers is R or more
 abbrev pub Has : List ℕ → Reading → ℕ → Item → Type 0
@@ -43,10 +43,10 @@ Nested code by = Whole code by nesting false 0 (length code)
 -- The blocks open at a place, innermost first, and the room left: between an opener or ELSE and the next, or the place, are whole blocks.
 pub data Opened (code : List ℕ) (by : Reading) : ℕ → List Open → ℕ → Type 0 where
   outside : {at : ℕ} → Whole code by nesting false 0 at → Opened code by nesting [] at
-  in-first : {room : ℕ} {o : List Open} {at : ℕ} (p : ℕ) → Opened code by (suc room) o p → Has code by p Item.If → Whole code by room (in-loop o) (p + 1) at
+  in-first : {room : ℕ} {o : List Open} {at : ℕ} (p : ℕ) → Opened code by (suc room) o p → Has code by p Item.If → Whole code by room (inLoop o) (p + 1) at
       → Opened code by room (open-at before p ∷ o) at
   in-second : {room : ℕ} {o : List Open} {at : ℕ} (p other : ℕ) → Opened code by room (open-at before p ∷ o) other → Has code by other Item.Else
-      → Whole code by room (in-loop o) (other + 1) at → Opened code by room (open-at after p ∷ o) at
+      → Whole code by room (inLoop o) (other + 1) at → Opened code by room (open-at after p ∷ o) at
   in-body : {room : ℕ} {o : List Open} {at : ℕ} (p : ℕ) → Opened code by (suc room) o p → Has code by p Item.Loop → Whole code by room true (p + 1) at
       → Opened code by room (open-at looping p ∷ o) at
 
@@ -72,7 +72,7 @@ pub data Misplaced (o : List Open) (at : ℕ) : Item → Refusal → Type 0 wher
   stray-else : (innermost o ≡ Inside.Before → ⊥) → Misplaced o at Item.Else (broken Rule.stray at)
   stray-endif : (innermost o ≡ Inside.Before → ⊥) → (innermost o ≡ Inside.After → ⊥) → Misplaced o at Item.Endif (broken Rule.stray at)
   stray-endloop : (innermost o ≡ Inside.Loop → ⊥) → Misplaced o at Item.Endloop (broken Rule.stray at)
-  stray-jump : in-loop o ≡ false → Misplaced o at Item.Jump (broken Rule.stray at)
+  stray-jump : inLoop o ≡ false → Misplaced o at Item.Jump (broken Rule.stray at)
   deep-if : length o ≡ nesting → Misplaced o at Item.If (broken Rule.depth at)
   deep-loop : length o ≡ nesting → Misplaced o at Item.Loop (broken Rule.depth at)
 

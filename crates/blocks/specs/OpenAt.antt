@@ -28,30 +28,30 @@ abbrev pub openAt : Code → ℕ → Found
 openAt code place = walk code place 0 []
 
 -- the page's number of a part: 1 before ELSE, 2 after, 3 loop
-abbrev pub part-number : Part → ℕ
-part-number before = 1
-part-number after = 2
-part-number looping = 3
+abbrev pub partNumber : Part → ℕ
+partNumber before = 1
+partNumber after = 2
+partNumber looping = 3
 
-abbrev pub number-of : Open → ℕ
-number-of (open-at part p) = part-number part
+abbrev pub partNumberOf : Open → ℕ
+partNumberOf (open-at part p) = partNumber part
 
-abbrev pub opener-of : Open → ℕ
-opener-of (open-at part p) = p
+abbrev pub openerOf : Open → ℕ
+openerOf (open-at part p) = p
 
 -- an open block as a state has it: its part's number and its opener
 abbrev pub numbered : Open → ℕ × ℕ
-numbered b = (number-of b, opener-of b)
+numbered b = (partNumberOf b, openerOf b)
 
-abbrev pub one-if-loop : Part → ℕ → ℕ
-one-if-loop before n = n
-one-if-loop after n = n
-one-if-loop looping n = n + 1
+abbrev pub oneIfLoop : Part → ℕ → ℕ
+oneIfLoop before n = n
+oneIfLoop after n = n
+oneIfLoop looping n = n + 1
 
 -- how many of the open blocks are loops
 unfoldable pub loops : List Open → ℕ
 loops [] = 0
-loops (open-at part p ∷ o) = one-if-loop part (loops o)
+loops (open-at part p ∷ o) = oneIfLoop part (loops o)
 
 -- a number of each open block, the outermost at 0, and 0 past them
 unfoldable pub filled : (Open → ℕ) → List Open → List ℕ
@@ -60,7 +60,7 @@ filled f (b ∷ o) = set (filled f o) (length o) (f b)
 
 -- the open blocks as `open_at` answers them
 abbrev pub stackOf : List Open → Stack
-stackOf o = record { depth = length o; loops = loops o; parts = filled number-of o; openers = filled opener-of o }
+stackOf o = record { depth = length o; loops = loops o; parts = filled partNumberOf o; openers = filled openerOf o }
 
 abbrev pub shown : Found → OpenAt
 shown nowhere = record { found = false; stack = stackOf [] }

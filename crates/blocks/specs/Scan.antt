@@ -1,4 +1,4 @@
--- A step of the proofs, but for `nesting`, `Part`, `Open` and `in-loop`, which `Nesting` uses.
+-- A step of the proofs, but for `nesting`, `Part`, `Open` and `inLoop`, which `Nesting` uses.
 -- The check of the code, in one pass with the list of open blocks, innermost first.
 -- Instruction by instruction it meets refusals 4 to 7 of the instruction itself, then 8 and 9, and at the end of the code 10.
 use Prim.Native.Nat.{ℕ, zero, suc, _+_}
@@ -47,39 +47,39 @@ elses at (open-at after p ∷ o) = stray at
 elses at (open-at looping p ∷ o) = stray at
 
 -- ENDIF closes an IF
-abbrev pub ends-if : ℕ → List Open → Next
-ends-if at [] = stray at
-ends-if at (open-at before p ∷ o) = go (at + 1) o
-ends-if at (open-at after p ∷ o) = go (at + 1) o
-ends-if at (open-at looping p ∷ o) = stray at
+abbrev pub endsIf : ℕ → List Open → Next
+endsIf at [] = stray at
+endsIf at (open-at before p ∷ o) = go (at + 1) o
+endsIf at (open-at after p ∷ o) = go (at + 1) o
+endsIf at (open-at looping p ∷ o) = stray at
 
 -- ENDLOOP closes a loop
-abbrev pub ends-loop : ℕ → List Open → Next
-ends-loop at [] = stray at
-ends-loop at (open-at before p ∷ o) = stray at
-ends-loop at (open-at after p ∷ o) = stray at
-ends-loop at (open-at looping p ∷ o) = go (at + 1) o
+abbrev pub endsLoop : ℕ → List Open → Next
+endsLoop at [] = stray at
+endsLoop at (open-at before p ∷ o) = stray at
+endsLoop at (open-at after p ∷ o) = stray at
+endsLoop at (open-at looping p ∷ o) = go (at + 1) o
 
 -- is there a loop among the open blocks?
-unfoldable pub in-loop : List Open → Bool
-in-loop [] = false
-in-loop (open-at before p ∷ o) = in-loop o
-in-loop (open-at after p ∷ o) = in-loop o
-in-loop (open-at looping p ∷ o) = true
+unfoldable pub inLoop : List Open → Bool
+inLoop [] = false
+inLoop (open-at before p ∷ o) = inLoop o
+inLoop (open-at after p ∷ o) = inLoop o
+inLoop (open-at looping p ∷ o) = true
 
 -- BREAK and CONTINUE stand inside some loop, at any depth of IF
 abbrev pub jumps : ℕ → List Open → Next
-jumps at o = cond (in-loop o) (go (at + 1) o) (stray at)
+jumps at o = cond (inLoop o) (go (at + 1) o) (stray at)
 
 -- what an instruction at a place does to the open blocks
 unfoldable pub react : Item → ℕ → List Open → Next
 react (Item.Plain width) at o = go (at + width) o
 react Item.If at o = opens before at o
 react Item.Else at o = elses at o
-react Item.Endif at o = ends-if at o
+react Item.Endif at o = endsIf at o
 react Item.Loop at o = opens looping at o
 react Item.Jump at o = jumps at o
-react Item.Endloop at o = ends-loop at o
+react Item.Endloop at o = endsLoop at o
 react (Item.Bad r) at o = over (Refused r)
 
 -- the end of the code; refusal 10: a block is open there

@@ -10,7 +10,7 @@ use Rattle.blocks.specs.declared.rules.Inside.{Inside}
 use Rattle.blocks.specs.declared.places.Stack.{Stack}
 use Rattle.blocks.specs.declared.places.Moved.{Moved}
 use Rattle.blocks.specs.Scan.{nesting, Part, before, after, looping, Open, Next, over, go, ended}
-use Rattle.blocks.specs.OpenAt.{part-number, number-of, opener-of, loops, filled}
+use Rattle.blocks.specs.OpenAt.{partNumber, partNumberOf, openerOf, loops, filled}
 use Rattle.blocks.specs.Levels.{around}
 use Rattle.blocks.specs.Nesting.{innermost}
 
@@ -19,8 +19,8 @@ pub record Holds (s : Stack) (o : List Open) : Type 0 where
   pub at-most : length o ≤ nesting
   pub depth-is : s .depth ≡ length o
   pub loops-is : s .loops ≡ loops o
-  pub parts-is : s .parts ≡ filled number-of o
-  pub openers-is : s .openers ≡ filled opener-of o
+  pub parts-is : s .parts ≡ filled partNumberOf o
+  pub openers-is : s .openers ≡ filled openerOf o
 
 -- the part that a level stands in; a block is opened only before its ELSE or as a loop
 abbrev pub partOf : Inside → Part
@@ -29,8 +29,8 @@ partOf Inside.Before = before
 partOf Inside.After = after
 partOf Inside.Loop = looping
 
-abbrev pub numberOf : Inside → ℕ
-numberOf inside = part-number (partOf inside)
+abbrev pub insideNumber : Inside → ℕ
+insideNumber inside = partNumber (partOf inside)
 
 abbrev pub insideFrom : ℕ → Inside
 insideFrom n = cond (eqb n 1) Inside.Before (cond (eqb n 2) Inside.After (cond (eqb n 3) Inside.Loop Inside.Nothing))

@@ -13,7 +13,7 @@ ghost use Rattle.blocks.specs.Scan.{nesting, Open, open-at, step};
 ghost use Rattle.blocks.specs.OpenAt.{nowhere, openAt, shown};
 ghost use Rattle.blocks.specs.Levels.{around};
 ghost use Rattle.blocks.specs.Nesting.{innermost};
-ghost use Rattle.blocks.specs.Stacks.{Holds, Turned, Advances, partOf, numberOf, insideFrom};
+ghost use Rattle.blocks.specs.Stacks.{Holds, Turned, Advances, partOf, insideNumber, insideFrom};
 
 // The open blocks, outermost first: the part (1 before ELSE, 2 after, 3 loop) and the opener's place of each, 0 past the depth; and how many are loops.
 pub struct Stack {
@@ -31,7 +31,7 @@ pub struct OpenAt {
 
 // The number of a part. Outside every block it is never used.
 fn number(inside: Inside) -> u32
-    ensures { λ r. ⌜ r ≡ numberOf inside ⌝ }
+    ensures { λ r. ⌜ r ≡ insideNumber inside ⌝ }
 {
     match inside {
         Inside::Nothing => 1,

@@ -16,7 +16,7 @@ use Rattle.blocks.specs.declared.item.Reading.{Reading}
 use Rattle.blocks.specs.declared.places.OpenAt.{OpenAt}
 use Rattle.blocks.specs.Code.{codeOf}
 use Rattle.blocks.specs.Scan.{nesting, Open}
-use Rattle.blocks.specs.OpenAt.{Found, nowhere, there, openAt, shown, filled, number-of, opener-of}
+use Rattle.blocks.specs.OpenAt.{Found, nowhere, there, openAt, shown, filled, partNumberOf, openerOf}
 use Rattle.blocks.proofs.Widths.{code-fits}
 use Rattle.blocks.proofs.Openers.{at-most}
 use Rattle.blocks.proofs.Stacks.{length-filled}
@@ -51,14 +51,14 @@ same-below xs parts openers k v w (suc d) h =
     )
 
 same-agree : (xs : List ℕ) (o : List Open) → length o ≤ nesting
-    → sameBlocks xs (filled number-of o) (filled opener-of o) (length o) ≡ agree (opened xs (length o)) o
+    → sameBlocks xs (filled partNumberOf o) (filled openerOf o) (length o) ≡ agree (opened xs (length o)) o
 unfolding filled
 same-agree xs [] h = refl
 same-agree xs (x ∷ o) h =
     rw (
-      getD-set-same (filled number-of o) (length o) (number-of x) 0 (omega (arith, length-filled number-of o)),
-      getD-set-same (filled opener-of o) (length o) (opener-of x) 0 (omega (arith, length-filled opener-of o)),
-      same-below xs (filled number-of o) (filled opener-of o) (length o) (number-of x) (opener-of x) (length o) (omega arith),
+      getD-set-same (filled partNumberOf o) (length o) (partNumberOf x) 0 (omega (arith, length-filled partNumberOf o)),
+      getD-set-same (filled openerOf o) (length o) (openerOf x) 0 (omega (arith, length-filled openerOf o)),
+      same-below xs (filled partNumberOf o) (filled openerOf o) (length o) (partNumberOf x) (openerOf x) (length o) (omega arith),
       same-agree xs o (omega arith),
     )
 
@@ -68,11 +68,11 @@ unequal [] [] h = absurd (h refl)
 unequal [] (x ∷ o) h = refl
 unequal (b ∷ p) [] h = refl
 unequal (b ∷ p) (x ∷ o) h =
-    rw (unequal p o (λ e. h (ap suc e))) (and-false (eqb (b .part) (number-of x) && eqb (b .opener) (opener-of x)))
+    rw (unequal p o (λ e. h (ap suc e))) (and-false (eqb (b .part) (partNumberOf x) && eqb (b .opener) (openerOf x)))
 
 -- ---- what was found at the place, a, against the first d blocks of the array
 there-agrees : (xs : List ℕ) (d : ℕ) (o : List Open) → length o ≤ nesting
-    → (eqb (length o) d && sameBlocks xs (filled number-of o) (filled opener-of o) d) ≡ agree (opened xs d) o
+    → (eqb (length o) d && sameBlocks xs (filled partNumberOf o) (filled openerOf o) d) ≡ agree (opened xs d) o
 there-agrees xs d o h =
     elim (ℕ-discrete (length o) d) [
       | yes e ↦ rw (← e, eq-eqb (length o) (length o) refl) (same-agree xs o h)

@@ -14,7 +14,7 @@ use Rattle.lanes.proofs.Bits.{bit-le, bit-zero, bit-or, set-ext, apart-sum, sum
 use Rattle.blocks.specs.declared.item.Reading.{Reading}
 use Rattle.blocks.specs.Code.{codeOf}
 use Rattle.blocks.specs.Scan.{nesting, Open}
-use Rattle.blocks.specs.OpenAt.{Found, nowhere, there, openAt, number-of, opener-of}
+use Rattle.blocks.specs.OpenAt.{Found, nowhere, there, openAt, partNumberOf, openerOf}
 use Rattle.lanes.specs.declared.said.Block.{Block}
 use Rattle.wave.specs.declared.state.Hot.{Hot}
 use Rattle.wave.specs.Wave.{Wave, Preds, waveOf, predsOf}
@@ -150,11 +150,11 @@ agree-yes [] [] t = tt
 agree-yes [] (x ∷ o) t = never t
 agree-yes (b ∷ p) [] t = never t
 agree-yes (b ∷ p) (x ∷ o) t =
-    let c1 : Bool = eqb (b .part) (number-of x) in
-    let c2 : Bool = eqb (b .opener) (opener-of x) in
+    let c1 : Bool = eqb (b .part) (partNumberOf x) in
+    let c2 : Bool = eqb (b .opener) (openerOf x) in
     let t1 : (c1 && c2) ≡ true = and-left (c1 && c2) (agree p o) t in (
-      eqb-true (b .part) (number-of x) (and-left c1 c2 t1),
-      eqb-true (b .opener) (opener-of x) (and-right c1 c2 t1),
+      eqb-true (b .part) (partNumberOf x) (and-left c1 c2 t1),
+      eqb-true (b .opener) (openerOf x) (and-right c1 c2 t1),
       agree-yes p o (and-right (c1 && c2) (agree p o) t),
     )
 
@@ -163,7 +163,7 @@ yes-agree [] [] s = refl
 yes-agree [] (x ∷ o) s = absurd s
 yes-agree (b ∷ p) [] s = absurd s
 yes-agree (b ∷ p) (x ∷ o) s =
-    rw (eq-eqb (b .part) (number-of x) (s .0), eq-eqb (b .opener) (opener-of x) (s .1), yes-agree p o (s .2))
+    rw (eq-eqb (b .part) (partNumberOf x) (s .0), eq-eqb (b .opener) (openerOf x) (s .1), yes-agree p o (s .2))
 
 place-yes : (f : Found) (p : List Block) → placeTest f p ≡ true → OpenThere f p
 place-yes nowhere p t = never t

@@ -11,7 +11,7 @@ use Rattle.lanes.proofs.Bits.{within-first-lt}
 use Rattle.blocks.specs.declared.item.Reading.{Reading}
 use Rattle.blocks.specs.Code.{codeOf}
 use Rattle.blocks.specs.Scan.{Part, before, after, looping, Open, open-at}
-use Rattle.blocks.specs.OpenAt.{Found, nowhere, there, openAt, part-number}
+use Rattle.blocks.specs.OpenAt.{Found, nowhere, there, openAt, partNumber}
 use Rattle.blocks.proofs.Widths.{code-fits}
 use Rattle.blocks.proofs.Openers.{EachOpened, each-opened}
 use Rattle.lanes.specs.declared.said.Block.{Block}
@@ -36,7 +36,7 @@ abbrev pub AllSized : ℕ → List Block → Type 0
 AllSized words [] = Unit
 AllSized words (b ∷ p) = Sized words b × AllSized words p
 
-part-sized : (part : Part) → (beforeElse ≤ part-number part) × (part-number part ≤ loopPart)
+part-sized : (part : Part) → (beforeElse ≤ partNumber part) × (partNumber part ≤ loopPart)
 part-sized before = (omega arith, omega arith)
 part-sized after = (omega arith, omega arith)
 part-sized looping = (omega arith, omega arith)

@@ -19,7 +19,7 @@ use Rattle.blocks.specs.declared.item.Reading.{Reading}
 use Rattle.blocks.specs.declared.structure.Checked.the-variants.{Fine}
 use Rattle.blocks.specs.Item.{controlItem, itemAt}
 use Rattle.blocks.specs.Code.{codeOf}
-use Rattle.blocks.specs.Scan.{nesting, Open, open-at, before, after, looping, in-loop, checkOf}
+use Rattle.blocks.specs.Scan.{nesting, Open, open-at, before, after, looping, inLoop, checkOf}
 use Rattle.blocks.specs.OpenAt.{Found, nowhere, there, openAt}
 use Rattle.blocks.proofs.Widths.{code-fits}
 use Rattle.blocks.proofs.Induction.{open-at-start}
@@ -61,8 +61,8 @@ module _ (f : Block → Block) (part : (b : Block) → f b .part ≡ b .part) (o
   same-aside (b ∷ p) (x ∷ o) s = same-case (isLoop b) b p x o s (same-aside p o (s .2))
 
 -- a loop among the code's blocks is one among the wave's
-some-loop : (p : List Block) (o : List Open) → Same p o → in-loop o ≡ true → SomeLoop p
-unfolding in-loop
+some-loop : (p : List Block) (o : List Open) → Same p o → inLoop o ≡ true → SomeLoop p
+unfolding inLoop
 some-loop [] [] s l = never l
 some-loop [] (x ∷ o) s l = absurd s
 some-loop (b ∷ p) [] s l = absurd s

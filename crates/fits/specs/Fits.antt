@@ -7,7 +7,7 @@ use Rattle.lanes.specs.Sets.{bit, widest}
 use Rattle.blocks.specs.declared.item.Reading.{Reading}
 use Rattle.blocks.specs.Code.{codeOf}
 use Rattle.blocks.specs.Scan.{nesting, Open}
-use Rattle.blocks.specs.OpenAt.{Found, nowhere, there, openAt, number-of, opener-of}
+use Rattle.blocks.specs.OpenAt.{Found, nowhere, there, openAt, partNumberOf, openerOf}
 use Rattle.lanes.specs.declared.said.Block.{Block}
 use Rattle.wave.specs.declared.state.Hot.{Hot}
 use Rattle.wave.specs.Wave.{Wave, Preds, waveOf, predsOf}
@@ -61,7 +61,7 @@ abbrev pub Same : List Block → List Open → Type 0
 Same [] [] = Unit
 Same [] (x ∷ o) = ⊥
 Same (b ∷ bs) [] = ⊥
-Same (b ∷ bs) (x ∷ o) = (b .part ≡ number-of x) × (b .opener ≡ opener-of x) × Same bs o
+Same (b ∷ bs) (x ∷ o) = (b .part ≡ partNumberOf x) × (b .opener ≡ openerOf x) × Same bs o
 
 -- the place is an instruction's first word or the end, and these blocks are open there
 abbrev pub OpenThere : Found → List Block → Type 0

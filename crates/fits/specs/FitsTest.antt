@@ -11,7 +11,7 @@ use Rattle.lanes.specs.Sets.{first, widest}
 use Rattle.blocks.specs.declared.item.Reading.{Reading}
 use Rattle.blocks.specs.Code.{codeOf}
 use Rattle.blocks.specs.Scan.{nesting, Open}
-use Rattle.blocks.specs.OpenAt.{Found, nowhere, there, openAt, number-of, opener-of}
+use Rattle.blocks.specs.OpenAt.{Found, nowhere, there, openAt, partNumberOf, openerOf}
 use Rattle.lanes.specs.declared.said.Block.{Block}
 use Rattle.wave.specs.declared.state.Hot.{Hot}
 use Rattle.wave.specs.Layout.{blockNumbers}
@@ -57,7 +57,7 @@ abbrev pub agree : List Block → List Open → Bool
 agree [] [] = true
 agree [] (x ∷ o) = false
 agree (b ∷ bs) [] = false
-agree (b ∷ bs) (x ∷ o) = eqb (b .part) (number-of x) && eqb (b .opener) (opener-of x) && agree bs o
+agree (b ∷ bs) (x ∷ o) = eqb (b .part) (partNumberOf x) && eqb (b .opener) (openerOf x) && agree bs o
 
 abbrev pub placeTest : Found → List Block → Bool
 placeTest nowhere p = false

@@ -11,7 +11,7 @@ use Rattle.ground.specs.Tests.{allOf}
 use Rattle.lanes.specs.Sets.{bit, first, widest}
 use Rattle.lanes.proofs.Bits.{within-first-lt}
 use Rattle.numbers.specs.Numbers.{bound}
-use Rattle.words.specs.Fetching.{instrAt}
+use Rattle.words.specs.Fetching.{fetchAt}
 use Rattle.wave.specs.Wave.{stateOf}
 use Rattle.fits.proofs.AtLane.{launched, fits-lanes}
 use Rattle.fits.proofs.Keeps.{active-launched}
@@ -47,14 +47,14 @@ module _ (s : Settings) (code : List ℕ) (l : Launchable s code) (m : Machine) 
   there = inside s code m (x .unended)
 
   faulty : Faulty f
-  faulty = subst Faulty (sym (x .faults)) (step-faulty s (instrAt code (m .wave .place)) m)
+  faulty = subst Faulty (sym (x .faults)) (step-faulty s (fetchAt code (m .wave .place)) m)
 
   none-twice : Apart f
-  none-twice = subst Apart (sym (x .faults)) (step-apart s (instrAt code (m .wave .place)) m)
+  none-twice = subst Apart (sym (x .faults)) (step-apart s (fetchAt code (m .wave .place)) m)
 
   lanes : (k : ℕ) → Lanes (m .wave .active) (lanesOfKind k f)
   lanes k =
-      subst (λ (g : Faults). Lanes (m .wave .active) (lanesOfKind k g)) (sym (x .faults)) (step-lanes s (instrAt code (m .wave .place)) m k)
+      subst (λ (g : Faults). Lanes (m .wave .active) (lanesOfKind k g)) (sym (x .faults)) (step-lanes s (fetchAt code (m .wave .place)) m k)
 
   -- a set of active lanes, and the halted lanes
   active-small : (set : ℕ) → ((i : ℕ) → bit set i ≤ bit (m .wave .active) i) → set < bound

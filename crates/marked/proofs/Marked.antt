@@ -13,7 +13,7 @@ use Rattle.ground.specs.Lists.{tabulate, inOrder}
 use Rattle.ground.specs.Tests.{sameList, oneOf, allOf}
 use Rattle.ground.proofs.Lists.{length-tabulate, tabulate-ext}
 use Rattle.lanes.specs.Sets.{bit, has, without, first, only, setOf}
-use Rattle.words.specs.Fetching.{instrAt}
+use Rattle.words.specs.Fetching.{fetchAt}
 use Rattle.blocks.specs.declared.structure.Checked.the-variants.{Fine}
 use Rattle.blocks.specs.Item.{itemAt}
 use Rattle.blocks.specs.Code.{codeOf}
@@ -134,7 +134,7 @@ bodies = (refl, refl)
 
 -- THE MARKED TABLE
 pub marked : Each table
-unfolding flatMap tabulate inOrder bit has without first only setOf instrAt itemAt blocks.in-loop blocks.react blocks.ended blocks.step blocks.scan blocks.run control.controlRule control.faultLanes slot byLane gatherOf writeLanes changesOf resultsOf predicateOf faultLanes faultsOf afterOf carriedOf stepOf runOf blocksOf partsOf outcomeKey keyOf
+unfolding flatMap tabulate inOrder bit has without first only setOf fetchAt itemAt blocks.inLoop blocks.react blocks.ended blocks.step blocks.scan blocks.run control.controlRule control.faultLanes slot byLane gatherOf writeLanes changesOf resultsOf predicateOf faultLanes faultsOf afterOf carriedOf stepOf runOf blocksOf partsOf outcomeKey keyOf
 marked =
     refl & refl & refl & refl & refl & refl & refl & refl & refl & refl & refl & refl & refl
     & gives 8 4 2 t12 (ended 9 (7 ∷ 8 ∷ 2 ∷ 2 ∷ []) 12) (lawful 4 t12 refl refl refl refl) (λ o e. other-outcome cc) (λ o. refl)

@@ -9,8 +9,8 @@ use Rattle.lanes.proofs.Bits.{bit-zero}
 use Rattle.lanes.proofs.Members.{has-le}
 use Rattle.instructions.specs.declared.instr.ControlOp.{ControlOp}
 use Rattle.instructions.specs.declared.instr.ControlOp.the-variants.{If, Else, Endif, Loop, Break, Continue, Endloop, Halt, Barrier, Nop}
-use Rattle.instructions.specs.declared.instr.Instr.{Instr}
 use Rattle.words.specs.declared.fetching.ControlIn.{ControlIn}
+use Rattle.words.specs.declared.fetching.Fetched.{Fetched}
 use Rattle.words.specs.Fetching.{controlIn}
 use Rattle.wave.specs.Wave.{Wave}
 use Rattle.wave.specs.Rules.{barred}
@@ -33,23 +33,23 @@ pub data Faulty (f : Faults) : Type 0 where
   at-work : Form f → Faulty f
   at-barrier : Only (5 ∷ []) f → Faulty f
 
-module _ (s : Settings) (x : Instr) (m : Machine) where
-  faulty-by : (c : ControlIn) → Faulty (faultsBy c (launchedOf s) (m .wave) (computed s x (lanesOf x m) m .faults))
+module _ (s : Settings) (x : Fetched) (m : Machine) where
+  faulty-by : (c : ControlIn) → Faulty (faultsBy c (launchedOf s) (m .wave) (computed s (x .instr) (lanesOf (x .instr) m) m .faults))
   faulty-by (ControlIn.Control o) = at-barrier (barrier-only (faultLanes o (launchedOf s) (m .wave)))
-  faulty-by ControlIn.Other = at-work (fault-form (shapeOf s) x (lanesOf x m) (lent-to x m))
+  faulty-by ControlIn.Other = at-work (fault-form (shapeOf s) (x .instr) (lanesOf (x .instr) m) (lent-to (x .instr) m))
 
   pub step-faulty : Faulty (stepOf s x m .faults)
   unfolding stepOf
-  step-faulty = faulty-by (controlIn (x .op))
+  step-faulty = faulty-by (controlIn (x .instr .op))
 
   -- no lane is of two kinds
-  apart-of : (c : ControlIn) → Apart (faultsBy c (launchedOf s) (m .wave) (computed s x (lanesOf x m) m .faults))
+  apart-of : (c : ControlIn) → Apart (faultsBy c (launchedOf s) (m .wave) (computed s (x .instr) (lanesOf (x .instr) m) m .faults))
   apart-of (ControlIn.Control o) = barrier-apart (faultLanes o (launchedOf s) (m .wave))
-  apart-of ControlIn.Other = fault-apart (shapeOf s) x (lanesOf x m) (lent-to x m)
+  apart-of ControlIn.Other = fault-apart (shapeOf s) (x .instr) (lanesOf (x .instr) m) (lent-to (x .instr) m)
 
   pub step-apart : Apart (stepOf s x m .faults)
   unfolding stepOf
-  step-apart = apart-of (controlIn (x .op))
+  step-apart = apart-of (controlIn (x .instr .op))
 
 -- ---- their lanes are active
 
@@ -77,8 +77,8 @@ control-active Halt all w = none-active (w .active)
 control-active Barrier all w = active-or-none (barred all w) (w .active)
 control-active Nop all w = none-active (w .active)
 
-module _ (s : Settings) (x : Instr) (m : Machine) where
-  lanes-in : (c : ControlIn) (k : ℕ) → Lanes (m .wave .active) (lanesOfKind k (faultsBy c (launchedOf s) (m .wave) (computed s x (lanesOf x m) m .faults)))
+module _ (s : Settings) (x : Fetched) (m : Machine) where
+  lanes-in : (c : ControlIn) (k : ℕ) → Lanes (m .wave .active) (lanesOfKind k (faultsBy c (launchedOf s) (m .wave) (computed s (x .instr) (lanesOf (x .instr) m) m .faults)))
   lanes-in (ControlIn.Control o) k =
       barrier-lanes (Lanes (m .wave .active)) (faultLanes o (launchedOf s) (m .wave)) (control-active o (launchedOf s) (m .wave))
       (none-active (m .wave .active)) k
@@ -86,12 +86,12 @@ module _ (s : Settings) (x : Instr) (m : Machine) where
       λ i.
       omega (
         arith,
-        has-le (lanesOfKind k (computed s x (lanesOf x m) m .faults)) (lanesOf x m)
-            (λ j h. fault-executes (shapeOf s) x (lanesOf x m) (lent-to x m) k j h .1) i,
-        executing-within (x .guard) (m .wave .active) (m .preds) i,
+        has-le (lanesOfKind k (computed s (x .instr) (lanesOf (x .instr) m) m .faults)) (lanesOf (x .instr) m)
+            (λ j h. fault-executes (shapeOf s) (x .instr) (lanesOf (x .instr) m) (lent-to (x .instr) m) k j h .1) i,
+        executing-within (x .instr .guard) (m .wave .active) (m .preds) i,
       )
 
   -- the lanes of every kind are
   pub step-lanes : (k : ℕ) → Lanes (m .wave .active) (lanesOfKind k (stepOf s x m .faults))
   unfolding stepOf
-  step-lanes = lanes-in (controlIn (x .op))
+  step-lanes = lanes-in (controlIn (x .instr .op))

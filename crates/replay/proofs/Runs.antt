@@ -8,7 +8,7 @@ use native.Mathlib.Nat.{zero-add, add-assoc}
 use native.Mathlib.Omega.{arith}
 use Rattle.ground.proofs.Tests.{true-or-false}
 use Rattle.faulting.specs.Kinds.{clear}
-use Rattle.instructions.specs.declared.instr.Instr.{Instr}
+use Rattle.words.specs.declared.fetching.Fetched.{Fetched}
 use Rattle.replay.specs.declared.settings.Settings.{Settings}
 use Rattle.replay.specs.declared.answers.Outcome.{Outcome}
 use Rattle.replay.specs.declared.answers.Outcome.the-variants.{Ended, OutOfBudget, Fault}
@@ -27,7 +27,7 @@ pub later-later : (a b : ℕ) (r : Ran) → later a (later b r) ≡ later (a + b
 later-later a b r = ap (λ (k : ℕ). done (r .outcome) k (r .end)) (sym (add-assoc a b (r .steps)))
 
 -- ---- a step that faults leaves the machine as it was
-pub keeps : (s : Settings) (x : Instr) (m : Machine) → clear (stepOf s x m .faults) ≡ false → stepOf s x m .end ≡ m
+pub keeps : (s : Settings) (x : Fetched) (m : Machine) → clear (stepOf s x m .faults) ≡ false → stepOf s x m .end ≡ m
 unfolding stepOf
 keeps s x m e = rw e
 

@@ -7,10 +7,9 @@ use native.Mathlib.Nat.{min-le-right, min-eq-left}
 use lib.Dec.{eqb}
 use lib.ListN.{length}
 use Rattle.ground.proofs.Bools.{never}
-use Rattle.instructions.specs.declared.instr.Instr.{Instr}
 use Rattle.instructions.specs.declared.instr.ControlOp.{ControlOp}
 use Rattle.words.specs.declared.fetching.ControlIn.{ControlIn}
-use Rattle.instructions.specs.Forms.{size}
+use Rattle.words.specs.declared.fetching.Fetched.{Fetched}
 use Rattle.words.specs.Fetching.{controlIn}
 use Rattle.instructions.specs.declared.instr.ControlOp.the-variants.{If, Else, Endif, Loop, Break, Continue, Endloop, Halt, Barrier, Nop}
 use Rattle.words.proofs.Fetches.{control-is}
@@ -60,16 +59,16 @@ abbrev holding : Hot → List ℕ → Lent → Machine
 holding h path l = standing (waveOf h path) (predsOf h) l
 
 -- the machine after x, of what the lanes made of its predicate, its registers and memories
-abbrev moved : Instr → Machine → Lent → Machine
-moved x m l = standing (onwardBy (size (x .op)) (m .wave)) (withNamed (x .rd) (l .predicate) (m .preds)) l
+abbrev moved : Fetched → Machine → Lent → Machine
+moved x m l = standing (onwardBy (x .words) (m .wave)) (withNamed (x .instr .rd) (l .predicate) (m .preds)) l
 
 -- what is known once the lanes t have worked on l: the outcome o, and whether no lane faults
-pub record Worked (s : Settings) (x : Instr) (t : ℕ) (h : Hot) (l : Lent) (o : Outcome) (none : Bool) : Type 0 where
-  pub predicate : l .predicate ≡ named (x .rd) (predsOf h)
-  pub carries : o ≡ carriedOf (shapeOf s) x t l
+pub record Worked (s : Settings) (x : Fetched) (t : ℕ) (h : Hot) (l : Lent) (o : Outcome) (none : Bool) : Type 0 where
+  pub predicate : l .predicate ≡ named (x .instr .rd) (predsOf h)
+  pub carries : o ≡ carriedOf (shapeOf s) (x .instr) t l
   pub tells : none ≡ clear (o .faults)
 
-module _ {s : Settings} {x : Instr} {t : ℕ} {h : Hot} {l : Lent} {o : Outcome} {none : Bool} (w : Worked s x t h l o none)
+module _ {s : Settings} {x : Fetched} {t : ℕ} {h : Hot} {l : Lent} {o : Outcome} {none : Bool} (w : Worked s x t h l o none)
     (path : List ℕ) where
   abbrev was : Machine
   was = holding h path l
@@ -77,9 +76,9 @@ module _ {s : Settings} {x : Instr} {t : ℕ} {h : Hot} {l : Lent} {o : Outcome}
   abbrev went : Machine
   went = moved x was (o .after)
 
-  as-computed : o ≡ computed s x t was
+  as-computed : o ≡ computed s (x .instr) t was
   as-computed =
-      w .carries ∙ ap (λ (p : ℕ). carriedOf (shapeOf s) x t (record { predicate = p; regs = l .regs; memories = l .memories })) (w .predicate)
+      w .carries ∙ ap (λ (p : ℕ). carriedOf (shapeOf s) (x .instr) t (record { predicate = p; regs = l .regs; memories = l .memories })) (w .predicate)
 
   as-ordinary : stepAs (o .faults) went was ≡ ordinaryOf s x t was
   unfolding ordinaryOf
@@ -87,13 +86,13 @@ module _ {s : Settings} {x : Instr} {t : ℕ} {h : Hot} {l : Lent} {o : Outcome}
 
   -- no lane faults: on by the instruction's words
   pub ordinary-on :
-      {words : ℕ} {n hot : Hot} → words ≡ size (x .op) → ((xs : List ℕ) → n ≡ hotOf (onwardBy words (waveOf h xs)) (predsOf h)) →
-      hot ≡ hotWith n (withNamed (x .rd) (o .after .predicate) (predsOf n)) → none ≡ true →
+      {n hot : Hot} → ((xs : List ℕ) → n ≡ hotOf (onwardBy (x .words) (waveOf h xs)) (predsOf h)) →
+      hot ≡ hotWith n (withNamed (x .instr .rd) (o .after .predicate) (predsOf n)) → none ≡ true →
       given (o .faults) (holding hot path (o .after)) ≡ ordinaryOf s x t was
-  ordinary-on count goes is e =
-      rw (is, goes path, count)
-      (ap (λ (v : Wave). given (o .faults) (standing v (withNamed (x .rd) (o .after .predicate) (predsOf h)) (o .after)))
-      (onward-seen (size (x .op)) h (predsOf h) path))
+  ordinary-on goes is e =
+      rw (is, goes path)
+      (ap (λ (v : Wave). given (o .faults) (standing v (withNamed (x .instr .rd) (o .after .predicate) (predsOf h)) (o .after)))
+      (onward-seen (x .words) h (predsOf h) path))
       ∙ step-goes (o .faults) went was (sym (w .tells) ∙ e)
       ∙ as-ordinary
 
@@ -103,20 +102,20 @@ module _ {s : Settings} {x : Instr} {t : ℕ} {h : Hot} {l : Lent} {o : Outcome}
       let bad : clear (o .faults) ≡ false = sym (w .tells) ∙ e in
       let kept : o .after ≡ l =
       ap (λ (q : Outcome). q .after) (w .carries)
-      ∙ carrying.faulted (shapeOf s) x t l (ap (λ (q : Outcome). clear (q .faults)) (sym (w .carries)) ∙ bad) in
+      ∙ carrying.faulted (shapeOf s) (x .instr) t l (ap (λ (q : Outcome). clear (q .faults)) (sym (w .carries)) ∙ bad) in
       ap (λ (k : Lent). given (o .faults) (holding h path k)) kept
       ∙ step-stays (o .faults) went was bad
       ∙ as-ordinary
 
 -- ---- the step of any instruction
 -- what is known of an instruction before it is carried out: its executing lanes t, and whether it is a control instruction
-pub record Looked (x : Instr) (h : Hot) (t : ℕ) (kind : ControlIn) : Type 0 where
-  pub lanes : t ≡ executingOf (x .guard) (h .active) (predsOf h)
-  pub is : kind ≡ controlIn (x .op)
+pub record Looked (x : Fetched) (h : Hot) (t : ℕ) (kind : ControlIn) : Type 0 where
+  pub lanes : t ≡ executingOf (x .instr .guard) (h .active) (predsOf h)
+  pub is : kind ≡ controlIn (x .instr .op)
 
 -- an instruction that is no control instruction takes an ordinary step
 pub step-ordinary :
-    {x : Instr} {h : Hot} {t : ℕ} {kind : ControlIn} → Looked x h t kind → kind ≡ ControlIn.Other →
+    {x : Fetched} {h : Hot} {t : ℕ} {kind : ControlIn} → Looked x h t kind → kind ≡ ControlIn.Other →
     (s : Settings) (path regs device local : List ℕ) →
     ordinaryOf s x t (machineOf h path regs device local) ≡ stepOf s x (machineOf h path regs device local)
 unfolding ordinaryOf stepOf
@@ -146,30 +145,30 @@ either-way : (b : Bool) (v w : Wave) (m : Wave → Machine) → (b ≡ false →
 either-way true v w m h = refl
 either-way false v w m h = ap m (h refl)
 
-module _ (s : Settings) (x : Instr) (o : ControlOp) (h : Hot) (path path′ regs device local : List ℕ) (r : Stepped)
-    (is : controlIn (x .op) ≡ ControlIn.Control o) where
+module _ (s : Settings) (x : Fetched) (o : ControlOp) (h : Hot) (path path′ regs device local : List ℕ) (r : Stepped)
+    (is : controlIn (x .instr .op) ≡ ControlIn.Control o) where
   abbrev at : Machine
   at = machineOf h path regs device local
 
   abbrev with-wave : Wave → Machine
   with-wave w = record { wave = w; preds = predsOf h; regs = regs; memories = record { device = device; local = local } }
 
-  idle : computed s x (lanesOf x at) at ≡ outcome noFaults (lent (named (x .rd) (predsOf h)) regs device local)
-  idle = carrying.control (shapeOf s) x (lanesOf x at) _ o (control-is (x .op) o is)
+  idle : computed s (x .instr) (lanesOf (x .instr) at) at ≡ outcome noFaults (lent (named (x .instr .rd) (predsOf h)) regs device local)
+  idle = carrying.control (shapeOf s) (x .instr) (lanesOf (x .instr) at) _ o (control-is (x .instr .op) o is)
 
   by-rule :
-      Seen o (launchedOf s) (lanesOf x at) h path r path′ →
+      Seen o (launchedOf s) (lanesOf (x .instr) at) h path r path′ →
       given (ofBarrier (r .barrier)) (machineOf (r .hot) path′ regs device local) ≡ stepOf s x at
   unfolding stepOf
   by-rule q =
-      rw (q .lanes, q .wave, q .preds, idle, is, named-same (x .rd) (predsOf h), and-true)
+      rw (q .lanes, q .wave, q .preds, idle, is, named-same (x .instr .rd) (predsOf h), and-true)
       (ap (given (ofBarrier (faultLanes o (launchedOf s) (waveOf h path))))
       (either-way (eqb (faultLanes o (launchedOf s) (waveOf h path)) 0) _ (waveOf h path) with-wave
-      (stays o (launchedOf s) (lanesOf x at) (waveOf h path))))
+      (stays o (launchedOf s) (lanesOf (x .instr) at) (waveOf h path))))
 
 -- a control instruction goes by its rule
 pub step-control :
-    {x : Instr} {h : Hot} {t all : ℕ} {kind : ControlIn} {o : ControlOp} {r : Stepped} {f : Faults} {path′ regs device local : List ℕ} →
+    {x : Fetched} {h : Hot} {t all : ℕ} {kind : ControlIn} {o : ControlOp} {r : Stepped} {f : Faults} {path′ regs device local : List ℕ} →
     Looked x h t kind → kind ≡ ControlIn.Control o → (s : Settings) (path : List ℕ) →
     all ≡ launchedOf s → length path ≡ pathNumbers →
     ruled.given r path′ ≡ controlOf o all t h path → f ≡ ofBarrier (r .barrier) →

@@ -7,8 +7,8 @@ use native.Mathlib.Omega.{arith}
 use native.Mathlib.Nat.{add-zero}
 use lib.ListN.{length}
 use Rattle.faulting.specs.Kinds.{clear}
-use Rattle.instructions.specs.declared.instr.Instr.{Instr}
-use Rattle.words.specs.Fetching.{instrAt}
+use Rattle.words.specs.declared.fetching.Fetched.{Fetched}
+use Rattle.words.specs.Fetching.{fetchAt}
 use Rattle.replay.specs.declared.settings.Settings.{Settings}
 use Rattle.replay.specs.declared.answers.Outcome.{Outcome}
 use Rattle.replay.specs.declared.answers.Outcome.the-variants.{Ended, OutOfBudget, Fault}
@@ -46,9 +46,9 @@ pub record Turn (s : Settings) (code : List ℕ) (budget n : ℕ) (m₀ : Machin
   pub going : Going s code budget n m₀ machine
   pub unended : endedOf s code machine ≡ false
   pub unspent : n ≡ budget → ⊥
-  pub instr : Instr
-  pub reads : instr ≡ instrAt code (machine .wave .place)
-  pub steps : x ≡ stepOf s instr machine
+  pub fetched : Fetched
+  pub reads : fetched ≡ fetchAt code (machine .wave .place)
+  pub steps : x ≡ stepOf s fetched machine
   pub same : SameLengths (x .end) machine
 
 -- ---- the ways out of the loop, and round
@@ -66,7 +66,7 @@ module _ {s : Settings} {code : List ℕ} {budget n : ℕ} {m₀ : Machine} {x :
   from = t .machine
 
   made : x ≡ stepAt s code from
-  made = t .steps ∙ ap (λ (i : Instr). stepOf s i from) (t .reads)
+  made = t .steps ∙ ap (λ (f : Fetched). stepOf s f from) (t .reads)
 
   pub below : n < budget
   below = omega (arith, t .unspent, t .going .fewer)

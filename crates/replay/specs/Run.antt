@@ -5,7 +5,7 @@ use mathlib.Core.List.{List}
 use lib.ListN.{length}
 use lib.Dec.{eqb, leb}
 use Rattle.lanes.specs.Sets.{without}
-use Rattle.words.specs.Fetching.{instrAt}
+use Rattle.words.specs.Fetching.{fetchAt}
 use Rattle.faulting.specs.Kinds.{clear}
 use Rattle.replay.specs.declared.settings.Settings.{Settings}
 use Rattle.replay.specs.declared.answers.Outcome.{Outcome}
@@ -41,7 +41,7 @@ endedOf s code m = endedAt s (length code) (m .wave .place) (m .wave .halted)
 
 -- the instruction at the wave's place, carried out
 abbrev pub stepAt : Settings → List ℕ → Machine → Stepped
-stepAt s code m = stepOf s (instrAt code (m .wave .place)) m
+stepAt s code m = stepOf s (fetchAt code (m .wave .place)) m
 
 -- a faulting instruction isn't counted
 abbrev pub onward : Stepped → Machine → (Unit {0} → Ran) → Ran

@@ -3,10 +3,9 @@ use Prim.Native.Nat.{ℕ, min}
 use mathlib.Core.Bool.{cond}
 use mathlib.Core.List.{List}
 use Rattle.lanes.specs.Sets.{widest, first}
-use Rattle.instructions.specs.declared.instr.Op.{Op}
 use Rattle.instructions.specs.declared.instr.Instr.{Instr}
 use Rattle.words.specs.declared.fetching.ControlIn.{ControlIn}
-use Rattle.instructions.specs.Forms.{size}
+use Rattle.words.specs.declared.fetching.Fetched.{Fetched}
 use Rattle.words.specs.Fetching.{controlIn}
 use Rattle.wave.specs.Wave.{Wave}
 use Rattle.wave.specs.Rules.{executingOf, onwardBy}
@@ -43,8 +42,8 @@ abbrev pub waveBy : ControlIn → ℕ → ℕ → ℕ → Wave → Wave
 waveBy (ControlIn.Control o) n all t w = controlRule o all t w
 waveBy ControlIn.Other n all t w = onwardBy n w
 
-abbrev pub waveAfter : Op → ℕ → ℕ → Wave → Wave
-waveAfter op all t w = waveBy (controlIn op) (size op) all t w
+abbrev pub waveAfter : Fetched → ℕ → ℕ → Wave → Wave
+waveAfter x all t w = waveBy (controlIn (x .instr .op)) (x .words) all t w
 
 -- the faults: a control instruction has those of a barrier, which only BARRIER has, and any other those of its lanes' work
 abbrev pub faultsBy : ControlIn → ℕ → Wave → Faults → Faults
@@ -55,13 +54,13 @@ abbrev pub faultsIn : Settings → Instr → Machine → Faults
 faultsIn s x m = faultsBy (controlIn (x .op)) (launchedOf s) (m .wave) (computed s x (lanesOf x m) m .faults)
 
 -- the machine after the lanes t carried x out
-abbrev pub carriedBy : Settings → Instr → ℕ → Machine → Machine
+abbrev pub carriedBy : Settings → Fetched → ℕ → Machine → Machine
 carriedBy s x t m =
     record {
-      wave = waveAfter (x .op) (launchedOf s) t (m .wave);
-      preds = withNamed (x .rd) (computed s x t m .after .predicate) (m .preds);
-      regs = computed s x t m .after .regs;
-      memories = computed s x t m .after .memories;
+      wave = waveAfter x (launchedOf s) t (m .wave);
+      preds = withNamed (x .instr .rd) (computed s (x .instr) t m .after .predicate) (m .preds);
+      regs = computed s (x .instr) t m .after .regs;
+      memories = computed s (x .instr) t m .after .memories;
     }
 
 -- what a step gives: the faults, and the machine after it
@@ -72,19 +71,19 @@ pub record Stepped : Type 0 where
 abbrev pub stepAs : Faults → Machine → Machine → Stepped
 stepAs f went m = record { faults = f; end = cond (clear f) went m }
 
-unfoldable pub stepOf : Settings → Instr → Machine → Stepped
-stepOf s x m = stepAs (faultsIn s x m) (carriedBy s x (lanesOf x m) m) m
+unfoldable pub stepOf : Settings → Fetched → Machine → Stepped
+stepOf s x m = stepAs (faultsIn s (x .instr) m) (carriedBy s x (lanesOf (x .instr) m) m) m
 
 -- the answer of the code, with the buffers as it leaves them
 abbrev pub stepped : StepAnswer → List ℕ → List ℕ → List ℕ → List ℕ → Stepped
 stepped a path regs device local = record { faults = a .faults; end = machineOf (a .hot) path regs device local }
 
 -- a step of an instruction that is no control instruction, by the lanes t
-unfoldable pub ordinaryOf : Settings → Instr → ℕ → Machine → Stepped
+unfoldable pub ordinaryOf : Settings → Fetched → ℕ → Machine → Stepped
 ordinaryOf s x t m =
-    stepAs (computed s x t m .faults) (record {
-      wave = onwardBy (size (x .op)) (m .wave);
-      preds = withNamed (x .rd) (computed s x t m .after .predicate) (m .preds);
-      regs = computed s x t m .after .regs;
-      memories = computed s x t m .after .memories;
+    stepAs (computed s (x .instr) t m .faults) (record {
+      wave = onwardBy (x .words) (m .wave);
+      preds = withNamed (x .instr .rd) (computed s (x .instr) t m .after .predicate) (m .preds);
+      regs = computed s (x .instr) t m .after .regs;
+      memories = computed s (x .instr) t m .after .memories;
     }) m

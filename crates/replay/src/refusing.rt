@@ -1,4 +1,7 @@
 // The refusals of a run, in their order.
+use crate::settings::MOST_REGISTERS;
+use crate::settings::MOST_STEPS;
+use crate::settings::MOST_WORDS;
 use crate::settings::Settings;
 use blocks::item::Reading;
 use blocks::structure::Checked;
@@ -14,13 +17,6 @@ ghost use mathlib.Core.Path.{_≡_};
 ghost use lib.ListN.{length};
 ghost use Prim.Native.Nat.{_*_};
 ghost use Rattle.replay.specs.Replay.{settingsRight, readingOf, refusedUnless, thenTest, boundsTest, launchTest, resumeTest};
-
-// What the page allows at most.
-pub const MOST_REGISTERS: u32 = 256;
-
-pub const MOST_STEPS: u32 = 1_000_000_000;
-
-pub const MOST_WORDS: usize = 65536;
 
 // Whether every setting is allowed.
 fn settings_right(s: Settings) -> bool

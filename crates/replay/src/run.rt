@@ -7,7 +7,7 @@ use lanes::first;
 use lanes::without;
 use wave::state::Hot;
 use wave::state::PATH_NUMBERS;
-use words::fetching::instr_at;
+use words::fetching::fetch_at;
 ghost use mathlib.Core.Path.{_≡_};
 ghost use lib.ListN.{length};
 ghost use Rattle.replay.specs.Machine.{machineOf};
@@ -61,7 +61,7 @@ pub(crate) fn go(
                 hot,
             };
         }
-        let x = instr_at(code, hot.place as usize);
+        let x = fetch_at(code, hot.place as usize);
         let a = step(x, settings, hot, path, regs, device, local);
         let faults = a.faults;
         let next = a.hot;

@@ -5,7 +5,6 @@ use compute::carry_out;
 use faulting::faults::Faults;
 use faulting::faults::is_clear;
 use faulting::faults::of_barrier;
-use instructions::instr::Instr;
 use lanes::Lanes;
 use lanes::first;
 use wave::control::control;
@@ -15,8 +14,8 @@ use wave::state::Hot;
 use wave::state::PATH_NUMBERS;
 use wave::state::whole;
 use words::fetching::ControlIn;
+use words::fetching::Fetched;
 use words::fetching::control_in;
-use words::fetching::word_count;
 ghost use mathlib.Core.Path.{_≡_};
 ghost use mathlib.Core.List.{List};
 ghost use Prim.Native.Nat.{ℕ};
@@ -59,7 +58,7 @@ fn with_named(k: u8, set: Lanes, h: Hot) -> Hot
 
 // An instruction that is no control instruction, by the lanes t: on by its words, or where some lane faults, as before it.
 fn ordinary(
-    x: Instr,
+    x: Fetched,
     t: Lanes,
     settings: Settings,
     h: Hot,
@@ -71,16 +70,16 @@ fn ordinary(
         stepped r path (now (regs .exit)) (now (device .exit)) (now (local .exit))
         ≡ ordinaryOf settings x t (machineOf h path (now (regs .entry)) (now (device .entry)) (now (local .entry)))) ⌝ }
 {
-    let rd = x.rd;
-    let op = x.op;
+    let instr = x.instr;
+    let rd = instr.rd;
     let shape = Shape {
         width: settings.width,
         registers: settings.registers,
     };
-    let c = carry_out(x, t, named_set(rd, h), shape, regs, device, local);
+    let c = carry_out(instr, t, named_set(rd, h), shape, regs, device, local);
     let faults = c.faults;
     if is_clear(faults) {
-        let n = onward_by(word_count(op), h);
+        let n = onward_by(x.words, h);
         let hot = with_named(rd, c.predicate, n);
         return StepAnswer { faults, hot };
     }
@@ -89,7 +88,7 @@ fn ordinary(
 
 // One step. The machine afterwards is what `stepOf` says; a fault leaves it as it was.
 pub(crate) fn step(
-    x: Instr,
+    x: Fetched,
     settings: Settings,
     h: Hot,
     path: &mut [u32; PATH_NUMBERS],
@@ -101,8 +100,9 @@ pub(crate) fn step(
         stepped r (now (path .exit)) (now (regs .exit)) (now (device .exit)) (now (local .exit))
         ≡ stepOf settings x (machineOf h (now (path .entry)) (now (regs .entry)) (now (device .entry)) (now (local .entry))) ⌝ }
 {
-    let guard = x.guard;
-    let op = x.op;
+    let instr = x.instr;
+    let guard = instr.guard;
+    let op = instr.op;
     let t = executing(guard, h);
     let kind = control_in(op);
     match kind {

@@ -8,6 +8,7 @@ use replay::answers::Outcome;
 use replay::answers::Replayed;
 use replay::doors::launch;
 use replay::doors::resume;
+use replay::settings::MOST_STEPS;
 use replay::settings::Settings;
 use wave::state::State;
 ghost use mathlib.Core.Path.{_≡_};
@@ -20,9 +21,6 @@ ghost use Rattle.replay_capture.specs.Starting.{startOf, stopped};
 const FIRST_SLICE: u32 = 1_000_000;
 
 const SLICE: u32 = 20_000_000;
-
-// The largest budget that is allowed.
-const MOST_STEPS: u32 = 1_000_000_000;
 
 // Whether a run stopped because its budget was spent.
 fn is_stopped(outcome: Outcome) -> bool

@@ -12,11 +12,10 @@ use Rattle.ground.proofs.Bools.{never}
 use Rattle.lanes.specs.Sets.{bit, first, without}
 use Rattle.lanes.proofs.Members.{joined-le}
 use Rattle.words.specs.declared.fetching.ControlIn.{ControlIn}
+use Rattle.words.specs.declared.fetching.Fetched.{Fetched}
 use Rattle.instructions.specs.declared.instr.Instr.{Instr}
-use Rattle.instructions.specs.Forms.{limitsOf, size}
-use Rattle.words.specs.Fetching.{instrAt, controlIn}
-use Rattle.words.proofs.Sizes.{size-most}
-use Rattle.words.proofs.Fetches.{fetched}
+use Rattle.words.specs.Fetching.{fetchAt, instrAt, controlIn}
+use Rattle.words.proofs.Fetches.{fetched, fetch-most}
 use Rattle.blocks.specs.declared.item.Reading.{Reading}
 use Rattle.blocks.specs.declared.structure.Checked.the-variants.{Fine}
 use Rattle.blocks.specs.Item.{itemBy, itemOf, itemAt}
@@ -69,11 +68,10 @@ module _ (code : List ℕ) (by : Reading) (checked : checkOf (codeOf code by) �
   found-instruction place path h (there o) e f = instruction-there code by place checked o e h
 
   pub item-there : (place : ℕ) (path : List Block) → place < length code → OpenThere (openAt (codeOf code by) place) path
-      → itemAt code by place ≡ itemOf (instrAt code place .op) (size (instrAt code place .op))
+      → itemAt code by place ≡ itemOf (fetchAt code place .instr .op) (fetchAt code place .words)
   item-there place path h f =
       let i = found-instruction place path h (openAt (codeOf code by) place) refl f in
-      let r = fetched code place (i .width) (i .instr) (i .reads) in
-      i .item-is ∙ ap (itemOf (i .instr .op)) (sym (r .1)) ∙ ap (λ (x : Instr). itemOf (x .op) (size (x .op))) (sym (r .0))
+      i .item-is ∙ ap (λ (x : Fetched). itemOf (x .instr .op) (x .words)) (sym (fetched code place (i .width) (i .instr) (i .reads)))
 
   module _ (n all t : ℕ) (w : Wave) (ps qs : Preds) (h : w .place < length code) (lanes : (i : ℕ) → bit t i ≤ bit (w .active) i)
       (q : PredsFit (first n) qs) (f : WaveFits code by n w ps) where
@@ -105,12 +103,12 @@ module _ (code : List ℕ) (by : Reading) (checked : checkOf (codeOf code by) �
         (x .rd)
 
     carried-keeps : (m : Machine) → m .wave .place < length code → MachineFits m
-        → MachineFits (carriedBy s (instrAt code (m .wave .place)) (lanesOf (instrAt code (m .wave .place)) m) m)
+        → MachineFits (carriedBy s (fetchAt code (m .wave .place)) (lanesOf (instrAt code (m .wave .place)) m) m)
     carried-keeps m h f =
         let x : Instr = instrAt code (m .wave .place) in
         wave-keeps n (launchedOf s) (lanesOf x m) (m .wave) (m .preds)
         (withNamed (x .rd) (computed s x (lanesOf x m) m .after .predicate) (m .preds)) h (executing-within (x .guard) (m .wave .active) (m .preds))
-        (preds-keep x m f) f (controlIn (x .op)) (size (x .op)) (size-most (limitsOf (x .op) .second)) (item-there (m .wave .place) (m .wave .path) h (f .blocks))
+        (preds-keep x m f) f (controlIn (x .op)) (fetchAt code (m .wave .place) .words) (fetch-most code (m .wave .place)) (item-there (m .wave .place) (m .wave .path) h (f .blocks))
 
     chosen : (c : Bool) (v m : Machine) → MachineFits v → MachineFits m → MachineFits (cond c v m)
     chosen true v m f g = f
@@ -121,7 +119,7 @@ module _ (code : List ℕ) (by : Reading) (checked : checkOf (codeOf code by) �
     unfolding stepOf
     step-keeps m h f =
         chosen (clear (faultsIn s (instrAt code (m .wave .place)) m))
-        (carriedBy s (instrAt code (m .wave .place)) (lanesOf (instrAt code (m .wave .place)) m) m) m (carried-keeps m h f) f
+        (carriedBy s (fetchAt code (m .wave .place)) (lanesOf (instrAt code (m .wave .place)) m) m) m (carried-keeps m h f) f
 
     -- A RUN keeps it
     pub run-keeps : (b : ℕ) (m : Machine) → MachineFits m → MachineFits (runOf s code b m .end)
@@ -139,7 +137,7 @@ module _ (s : Settings) (code : List ℕ) where
   unfolding stepOf
   step-long m =
       let x : Instr = instrAt code (m .wave .place) in
-      either-long (clear (faultsIn s x m)) (carriedBy s x (lanesOf x m) m) m
+      either-long (clear (faultsIn s x m)) (carriedBy s (fetchAt code (m .wave .place)) (lanesOf x m) m) m
       (length-regs (shapeOf s) x (lanesOf x m) (lent-to x m))
 
   -- no step adds or loses a register

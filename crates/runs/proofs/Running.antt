@@ -12,10 +12,11 @@ use Rattle.ground.proofs.Bools.{never}
 use Rattle.lanes.specs.Sets.{widest}
 use Rattle.instructions.specs.declared.instr.Op.{Op}
 use Rattle.instructions.specs.declared.instr.Instr.{Instr}
+use Rattle.words.specs.declared.fetching.Fetched.{Fetched}
 use Rattle.words.specs.declared.reading.ReadAnswer.{ReadAnswer}
-use Rattle.instructions.specs.Forms.{limitsOf}
-use Rattle.words.proofs.Sizes.{size-most}
-use Rattle.words.proofs.Standing.{stood}
+use Rattle.words.specs.Layout.{wordsOf}
+use Rattle.words.specs.Fetching.{counted}
+use Rattle.words.proofs.Standing.{stood, read-span}
 use Rattle.words.proofs.Fetches.{fetched}
 use Rattle.blocks.specs.Code.{codeOf}
 use Rattle.blocks.specs.Item.{itemOf}
@@ -77,8 +78,8 @@ module _ (s : Settings) (code : List ℕ) (l : Launchable s code) where
         instr = x;
         stands = w .0;
         reads = i .reads ∙ ap (ReadAnswer.Read x) (w .1);
-        carried = f .0;
-        next = mod-eq-of-lt (omega (arith, size-most (limitsOf (x .op) .second), short));
+        carried = f ∙ ap (counted x) (w .1);
+        next = mod-eq-of-lt (omega (arith, read-span code at x (i .width) (i .reads), w .1, short));
         below = λ p. never (sym (past-if (s .registers) x .1 p) ∙ i .below);
         shaped = shaped;
         computes = λ t. carried-in (shapeOf s) x t (lentOf x m) shaped;
@@ -91,8 +92,8 @@ module _ (s : Settings) (code : List ℕ) (l : Launchable s code) where
       }
 
 -- the step of a machine whose instruction is known
-pub step-of : (s : Settings) (code : List ℕ) (m : Machine) (i : Instructed s code m) → stepAt s code m ≡ stepOf s (i .instr) m
-step-of s code m i = ap (λ (x : Instr). stepOf s x m) (i .carried)
+pub step-of : (s : Settings) (code : List ℕ) (m : Machine) (i : Instructed s code m) → stepAt s code m ≡ stepOf s (counted (i .instr) (length (wordsOf (i .instr)))) m
+step-of s code m i = ap (λ (x : Fetched). stepOf s x m) (i .carried)
 
 -- ---- THEOREMS
 module _ (s : Settings) (code regs device local : List ℕ) (bounded : Bounded s code regs) (nested : Nested code (readingOf s)) where

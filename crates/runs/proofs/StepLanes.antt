@@ -13,6 +13,7 @@ use Rattle.instructions.specs.declared.instr.Space.{Space}
 use Rattle.instructions.specs.declared.instr.Instr.{Instr}
 use Rattle.instructions.specs.Forms.{limitsOf, guardFits, secondFits, fits, valid}
 use Rattle.words.specs.declared.fetching.ControlIn.{ControlIn}
+use Rattle.words.specs.declared.fetching.Fetched.{Fetched}
 use Rattle.words.specs.Fetching.{controlIn}
 use Rattle.words.proofs.Fetches.{control-is}
 use Rattle.wave.specs.Wave.{Preds}
@@ -64,7 +65,10 @@ names-predicate x (Op.Atomic o) e ok g = absurd (not-register g)
 names-predicate x Op.Cas e ok g = absurd (not-register g)
 names-predicate x (Op.Control o) e ok g = absurd (not-nothing g)
 
-module _ (s : Settings) (x : Instr) (m : Machine) where
+module _ (s : Settings) (f : Fetched) (m : Machine) where
+  abbrev x : Instr
+  x = f .instr
+
   -- the executing lanes, and what they are lent
   abbrev t : ℕ
   t = lanesOf x m
@@ -81,8 +85,8 @@ module _ (s : Settings) (x : Instr) (m : Machine) where
   work-clear (ControlIn.Control o) e h = ap (λ (y : Outcome). clear (y .faults)) (control shape x t lent o (control-is (x .op) o e))
   work-clear ControlIn.Other e h = h
 
-  module _ (unfaulted : clear (stepOf s x m .faults) ≡ true) where
-    goes : stepOf s x m .end ≡ carriedBy s x t m
+  module _ (unfaulted : clear (stepOf s f m .faults) ≡ true) where
+    goes : stepOf s f m .end ≡ carriedBy s f t m
     unfolding stepOf
     goes = rw unfaulted refl
 
@@ -92,23 +96,23 @@ module _ (s : Settings) (x : Instr) (m : Machine) where
 
     -- EVERY OTHER REGISTER of every lane is as before
     pub step-others : (i r : ℕ) → i < s .width → r < s .registers → (targetBy (x .op) ≡ to-register → has t i ≡ true → r ≡ x .rd → ⊥)
-        → register shape (stepOf s x m .end .regs) i r ≡ register shape (m .regs) i r
+        → register shape (stepOf s f m .end .regs) i r ≡ register shape (m .regs) i r
     step-others i r hi hr other = ap (λ (k : Machine). register shape (k .regs) i r) goes ∙ others-as-before shape x t lent i r hi hr other
 
     -- A MEMORY that the operation doesn't change is as before
-    pub step-memory : (q : Space) → (Changes (x .op) q → ⊥) → memoryOf q (stepOf s x m .end .memories) ≡ memoryOf q (m .memories)
-    step-memory q f = ap (λ (k : Machine). memoryOf q (k .memories)) goes ∙ memory-as-before shape x t lent q f
+    pub step-memory : (q : Space) → (Changes (x .op) q → ⊥) → memoryOf q (stepOf s f m .end .memories) ≡ memoryOf q (m .memories)
+    step-memory q g = ap (λ (k : Machine). memoryOf q (k .memories)) goes ∙ memory-as-before shape x t lent q g
 
     module _ (shaped : inShape shape x (m .regs) ≡ true) where
       -- AN EXECUTING LANE'S RD holds its result
       pub step-result : targetBy (x .op) ≡ to-register → (i : ℕ) → i < s .width → has t i ≡ true
-          → register shape (stepOf s x m .end .regs) i (x .rd) ≡ resultOf shape x t lent i
+          → register shape (stepOf s f m .end .regs) i (x .rd) ≡ resultOf shape x t lent i
       step-result g i h e =
           ap (λ (k : Machine). register shape (k .regs) i (x .rd)) goes ∙ result-in-rd shape x t lent shaped lanes-clear g i h e
 
       -- AND ITS BIT of the predicate that a comparison's RD names says whether it holds
       pub step-bit : valid x ≡ true → targetBy (x .op) ≡ to-predicate → (i : ℕ) → i < s .width → has t i ≡ true
-          → has (named (x .rd) (stepOf s x m .end .preds)) i ≡ eqb (resultOf shape x t lent i) 1
+          → has (named (x .rd) (stepOf s f m .end .preds)) i ≡ eqb (resultOf shape x t lent i) 1
       step-bit ok g i h e =
           let rd = names-predicate x (x .op) refl ok g in
           ap (λ (k : Machine). has (named (x .rd) (k .preds)) i) goes
@@ -120,14 +124,14 @@ module _ (s : Settings) (x : Instr) (m : Machine) where
         pub step-store : (k j : ℕ) → k < length (memoryOf q (m .memories)) → j < s .width → has t j ≡ true
             → wordOf (reachOf shape x (m .regs) j) ≡ k
             → ((i : ℕ) → j < i → i < s .width → has t i ≡ true → wordOf (reachOf shape x (m .regs) i) ≡ k → ⊥)
-            → getD (memoryOf q (stepOf s x m .end .memories)) k 0 ≡ rdOf shape x (m .regs) j
+            → getD (memoryOf q (stepOf s f m .end .memories)) k 0 ≡ rdOf shape x (m .regs) j
         step-store k j hk hj e w none =
             ap (λ (y : Machine). getD (memoryOf q (y .memories)) k 0) goes
             ∙ highest-stays shape x t lent shaped lanes-clear q stores k j hk hj e w none
 
         -- and a word that no executing lane's address names is as before
         pub step-word : (k : ℕ) → ((i : ℕ) → i < s .width → has t i ≡ true → wordOf (reachOf shape x (m .regs) i) ≡ k → ⊥)
-            → getD (memoryOf q (stepOf s x m .end .memories)) k 0 ≡ getD (memoryOf q (m .memories)) k 0
+            → getD (memoryOf q (stepOf s f m .end .memories)) k 0 ≡ getD (memoryOf q (m .memories)) k 0
         step-word k none =
             ap (λ (y : Machine). getD (memoryOf q (y .memories)) k 0) goes
             ∙ word-as-before shape x t lent shaped lanes-clear q stores k none

@@ -10,11 +10,10 @@ use Rattle.instructions.specs.declared.instr.ControlOp.{ControlOp}
 use Rattle.instructions.specs.declared.instr.Op.{Op}
 use Rattle.instructions.specs.declared.instr.Instr.{Instr}
 use Rattle.words.specs.declared.reading.ReadAnswer.{ReadAnswer}
-use Rattle.instructions.specs.Forms.{size}
 use Rattle.words.specs.Layout.{wordsOf}
 use Rattle.words.specs.Reading.{readAt}
 use Rattle.words.specs.Rules.{Stands}
-use Rattle.words.specs.Fetching.{instrAt}
+use Rattle.words.specs.Fetching.{counted, fetchAt}
 use Rattle.blocks.specs.Scan.{nesting}
 use Rattle.instructions.specs.Registers.{Past}
 use Rattle.wave.specs.Rules.{onBy}
@@ -42,9 +41,9 @@ pub record Instructed (s : Settings) (code : List ℕ) (m : Machine) : Type 0 wh
   pub instr : Instr
   pub stands : Stands code (m .wave .place) instr
   pub reads : readAt code (m .wave .place) ≡ ReadAnswer.Read instr (length (wordsOf instr))
-  pub carried : instrAt code (m .wave .place) ≡ instr
+  pub carried : fetchAt code (m .wave .place) ≡ counted instr (length (wordsOf instr))
   -- the place after it is a number of 32 bits
-  pub next : onBy (size (instr .op)) (m .wave .place) ≡ m .wave .place + size (instr .op)
+  pub next : onBy (length (wordsOf instr)) (m .wave .place) ≡ m .wave .place + length (wordsOf instr)
   -- none of its registers is R or more, so that it is in shape: what any lanes make of what was lent is what they make of it having read their
   -- registers
   pub below : Past (s .registers) instr → ⊥

@@ -3,7 +3,7 @@ use mathlib.Core.List.{List, [], _∷_}
 use Prim.Native.Nat.{ℕ, zero, suc, _+_, _-_, _*_}
 use lib.ListN.{length, replicate, getD, set, drop}
 use Rattle.blocks.specs.Scan.{before, after, looping}
-use Rattle.blocks.specs.OpenAt.{part-number}
+use Rattle.blocks.specs.OpenAt.{partNumber}
 use Rattle.lanes.specs.declared.said.Block.{Block}
 
 -- the numbers of a block, and of as many blocks as there is room for
@@ -15,13 +15,13 @@ pathNumbers = 192
 
 -- a block's part: 1 before ELSE, 2 after, 3 loop
 abbrev pub beforeElse : ℕ
-beforeElse = part-number before
+beforeElse = partNumber before
 
 abbrev pub afterElse : ℕ
-afterElse = part-number after
+afterElse = partNumber after
 
 abbrev pub loopPart : ℕ
-loopPart = part-number looping
+loopPart = partNumber looping
 
 -- the six numbers of a block, and then the rest
 abbrev pub six : Block → List ℕ → List ℕ

@@ -1,4 +1,5 @@
 // The state of a wave: the hot numbers by value, and the open blocks in one array, outermost first, six numbers each in the key's order.
+use blocks::structure;
 use lanes::Lanes;
 ghost use mathlib.Core.Path.{_≡_};
 ghost use Prim.Native.Nat.{min};
@@ -8,7 +9,7 @@ ghost use Rattle.wave.specs.Layout.{pathNumbers};
 ghost use Rattle.wave.specs.Wave.{held, tidied};
 
 // The room for nesting: no more blocks are open.
-pub const NESTING: u32 = 32;
+pub const NESTING: u32 = structure::NESTING as u32;
 
 // An open block is six numbers: its part, and then these.
 pub const BLOCK_NUMBERS: usize = 6;
@@ -24,7 +25,7 @@ pub const AGAIN: usize = 4;
 pub const LEFT: usize = 5;
 
 // The numbers of as many blocks as there is room for.
-pub const PATH_NUMBERS: usize = 192;
+pub const PATH_NUMBERS: usize = BLOCK_NUMBERS * structure::NESTING;
 
 // A block's part.
 pub const BEFORE_ELSE: u32 = 1;

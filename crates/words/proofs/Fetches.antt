@@ -1,5 +1,5 @@
 -- What is fetched at a place: by the numbers that the code has; and that it is what reading gives there, where reading gives anything.
-use mathlib.Core.Path.{_≡_, refl, sym, ap, _∙_}
+use mathlib.Core.Path.{_≡_, _∙_}
 use mathlib.Core.Bool.{Bool, true, false, cond, _&&_}
 use mathlib.Core.List.{List, [], _∷_}
 use Prim.Native.Nat.{ℕ, suc, _≤_, _<_, _+_}
@@ -12,36 +12,36 @@ use Rattle.refusals.specs.Table.{Rule, broken}
 use Rattle.instructions.specs.declared.instr.ControlOp.{ControlOp}
 use Rattle.instructions.specs.declared.instr.Instr.{Instr}
 use Rattle.instructions.specs.declared.instr.Op.{Op}
-use Rattle.instructions.specs.declared.forms.Second.{Second}
 use Rattle.instructions.specs.declared.forms.Limits.{Limits}
 use Rattle.words.specs.declared.fetching.ControlIn.{ControlIn}
 use Rattle.words.specs.declared.reading.ReadAnswer.{ReadAnswer}
 use Rattle.instructions.specs.declared.table.FoundOp.{FoundOp}
 use Rattle.instructions.specs.Table.{opOf}
-use Rattle.instructions.specs.Forms.{limitsOf, sizeOf, size, fits}
+use Rattle.instructions.specs.Forms.{limitsOf, sizeOf, fits}
 use Rattle.words.specs.Layout.{opcodeIn, modifierIn, instrIn, spareZero}
 use Rattle.words.specs.Reading.{readFields, readOp, readFrom, readAt}
-use Rattle.words.specs.Fetching.{nop, saidBy, saidFrom, instrAt, controlIn}
+use Rattle.words.specs.Fetching.{counted, nop, saidBy, saidFrom, fetchAt, controlIn}
+use Rattle.words.proofs.Sizes.{size-most}
 
 -- ---- by the numbers that the code has
 module _ (ws : List ℕ) (at : ℕ) where
-  pub fetch-past : length ws ≤ at → instrAt ws at ≡ nop
-  unfolding instrAt
+  pub fetch-past : length ws ≤ at → fetchAt ws at ≡ nop
+  unfolding fetchAt
   fetch-past h = rw (drop-of-length-le ws h)
 
   module _ (here : at < length ws) where
-    said : instrAt ws at ≡ saidBy (opOf (opcodeIn (getD ws at 0)) (modifierIn (getD ws at 0))) (getD ws at 0) (getD ws (at + 1) 0)
-    unfolding instrAt
+    said : fetchAt ws at ≡ saidBy (opOf (opcodeIn (getD ws at 0)) (modifierIn (getD ws at 0))) (getD ws at 0) (getD ws (at + 1) 0)
+    unfolding fetchAt
     said =
         let next : suc at + 0 ≡ at + 1 = omega arith in
         rw (drop-cons ws at 0 here, getD-drop (suc at) ws 0 0, next)
 
-    pub fetch-missing : opOf (opcodeIn (getD ws at 0)) (modifierIn (getD ws at 0)) ≡ FoundOp.Missing → instrAt ws at ≡ nop
+    pub fetch-missing : opOf (opcodeIn (getD ws at 0)) (modifierIn (getD ws at 0)) ≡ FoundOp.Missing → fetchAt ws at ≡ nop
     fetch-missing e = said ∙ rw e
 
     pub fetch-carried :
         (o : Op) (l : Limits) (v : ℕ) → opOf (opcodeIn (getD ws at 0)) (modifierIn (getD ws at 0)) ≡ FoundOp.Carried o → l ≡ limitsOf o →
-        v ≡ getD ws (at + 1) 0 → instrAt ws at ≡ instrIn (l .second) o (getD ws at 0) v
+        v ≡ getD ws (at + 1) 0 → fetchAt ws at ≡ counted (instrIn (l .second) o (getD ws at 0) v) (sizeOf (l .second))
     fetch-carried o l v e el ev = said ∙ rw (e, el, ev)
 
 -- ---- what reading gives
@@ -58,13 +58,7 @@ early :
 early true r m n x i e = (cc, cc)
 early false r m n x i e = not-read r n i e
 
--- the operation stands in the instruction, whatever the second word is
-op-stays : (s : Second) (o : Op) (w v : ℕ) → size (instrIn s o w v .op) ≡ size o
-op-stays Second.Nothing o w v = refl
-op-stays Second.Number o w v = refl
-op-stays (Second.Registers a b c) o w v = refl
-
-by-op : (f : FoundOp) (w : ℕ) (ws : List ℕ) (at n : ℕ) (i : Instr) → readOp f w ws at ≡ ReadAnswer.Read i n → (saidBy f w (getD ws 0 0) ≡ i) × (size (i .op) ≡ n)
+by-op : (f : FoundOp) (w : ℕ) (ws : List ℕ) (at n : ℕ) (i : Instr) → readOp f w ws at ≡ ReadAnswer.Read i n → saidBy f w (getD ws 0 0) ≡ counted i n
 by-op FoundOp.Missing w ws at n i e = not-read _ n i e
 by-op (FoundOp.Carried o) w ws at n i e =
     let l = limitsOf o in
@@ -72,16 +66,29 @@ by-op (FoundOp.Carried o) w ws at n i e =
     let p =
     early (spareZero (l .second) w (getD ws 0 0) && fits l x) (broken Rule.field at) (sizeOf (l .second)) n x i
     (late (ltb (suc (length ws)) (sizeOf (l .second))) (broken Rule.no-second at) n (readFields o l w (getD ws 0 0) at) i e) in
-    (p .0, ap (λ (x : Instr). size (x .op)) (sym (p .0)) ∙ op-stays (limitsOf o .second) o w (getD ws 0 0) ∙ p .1)
+    λ k. record { instr = p .0 k; words = p .1 k }
 
-from-words : (ws : List ℕ) (at n : ℕ) (i : Instr) → readFrom ws at ≡ ReadAnswer.Read i n → (saidFrom ws ≡ i) × (size (i .op) ≡ n)
+from-words : (ws : List ℕ) (at n : ℕ) (i : Instr) → readFrom ws at ≡ ReadAnswer.Read i n → saidFrom ws ≡ counted i n
 from-words [] at n i e = not-read _ n i e
 from-words (w ∷ ws) at n i e = by-op (opOf (opcodeIn w) (modifierIn w)) w ws at n i e
 
--- where reading gives an instruction, it is the one that is fetched, and it has as many words as its operation
-pub fetched : (ws : List ℕ) (at n : ℕ) (i : Instr) → readAt ws at ≡ ReadAnswer.Read i n → (instrAt ws at ≡ i) × (size (i .op) ≡ n)
-unfolding instrAt
+-- where reading gives an instruction, it is the one that is fetched, with as many words
+pub fetched : (ws : List ℕ) (at n : ℕ) (i : Instr) → readAt ws at ≡ ReadAnswer.Read i n → fetchAt ws at ≡ counted i n
+unfolding fetchAt
 fetched ws at n i e = from-words (drop at ws) at n i e
+
+-- ---- at most two words are fetched
+said-most : (f : FoundOp) (w v : ℕ) → saidBy f w v .words ≤ 2
+said-most FoundOp.Missing w v = omega arith
+said-most (FoundOp.Carried o) w v = size-most (limitsOf o .second)
+
+from-most : (ws : List ℕ) → saidFrom ws .words ≤ 2
+from-most [] = omega arith
+from-most (w ∷ ws) = said-most (opOf (opcodeIn w) (modifierIn w)) w (getD ws 0 0)
+
+pub fetch-most : (ws : List ℕ) (at : ℕ) → fetchAt ws at .words ≤ 2
+unfolding fetchAt
+fetch-most ws at = from-most (drop at ws)
 
 -- ---- control
 other : {A : Type 0} (o : ControlOp) → ControlIn.Other ≡ ControlIn.Control o → A

@@ -5,10 +5,10 @@ use Prim.Native.Nat.{ℕ}
 use Rattle.instructions.specs.declared.instr.Instr.{Instr}
 use Rattle.instructions.specs.declared.instr.Op.{Op}
 use Rattle.words.specs.declared.fetching.ControlIn.{ControlIn}
+use Rattle.words.specs.declared.fetching.Fetched.{Fetched}
 use Rattle.words.specs.declared.reading.ReadAnswer.{ReadAnswer}
 use Rattle.words.specs.declared.writing.WriteAnswer.{WriteAnswer}
-use Rattle.instructions.specs.Forms.{size}
-use Rattle.words.specs.Fetching.{instrAt, controlIn}
+use Rattle.words.specs.Fetching.{fetchAt, controlIn}
 use Rattle.words.specs.Reading.{readAt}
 use Rattle.instructions.proofs.OneAnswer.{one}
 use Rattle.words.specs.Writing.{Written, written, writeOf}
@@ -25,11 +25,8 @@ pub write-one :
 write-one i out r u after later p q = (ap (λ (w : Written). w .answer) (one p q), ap (λ (w : Written). w .after) (one p q))
 
 -- ---- checked code
-pub instr-at-one : (ws : List ℕ) (at : ℕ) (r u : Instr) → r ≡ instrAt ws at → u ≡ instrAt ws at → r ≡ u
-instr-at-one ws at r u p q = one p q
+pub fetch-at-one : (ws : List ℕ) (at : ℕ) (r u : Fetched) → r ≡ fetchAt ws at → u ≡ fetchAt ws at → r ≡ u
+fetch-at-one ws at r u p q = one p q
 
 pub control-in-one : (op : Op) (r u : ControlIn) → r ≡ controlIn op → u ≡ controlIn op → r ≡ u
 control-in-one op r u p q = one p q
-
-pub word-count-one : (op : Op) (r u : ℕ) → r ≡ size op → u ≡ size op → r ≡ u
-word-count-one op r u p q = one p q

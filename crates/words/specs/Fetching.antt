@@ -1,4 +1,4 @@
--- The instruction at a place as its words say it, with no test of them; for code that has passed the check.
+-- The instruction at a place and how many words it has, as its words say it, with no test of them; for code that has passed the check.
 use mathlib.Core.Bool.{false}
 use mathlib.Core.List.{List, [], _∷_}
 use Prim.Native.Nat.{ℕ}
@@ -7,26 +7,34 @@ use Rattle.instructions.specs.declared.instr.ControlOp.{ControlOp}
 use Rattle.instructions.specs.declared.instr.Instr.{Instr}
 use Rattle.instructions.specs.declared.instr.Op.{Op}
 use Rattle.words.specs.declared.fetching.ControlIn.{ControlIn}
+use Rattle.words.specs.declared.fetching.Fetched.{Fetched}
 use Rattle.instructions.specs.declared.table.FoundOp.{FoundOp}
 use Rattle.instructions.specs.Table.{opOf}
-use Rattle.instructions.specs.Forms.{limitsOf}
+use Rattle.instructions.specs.Forms.{limitsOf, size}
 use Rattle.words.specs.Layout.{opcodeIn, modifierIn, instr, instrIn}
 
-abbrev pub nop : Instr
-nop = instr (Op.Control ControlOp.Nop) (record { pred = 0; negate = false }) 0 0 0 0 0 0
+-- an instruction of so many words
+abbrev pub counted : Instr → ℕ → Fetched
+counted i n = record { instr = i; words = n }
+
+abbrev pub nop : Fetched
+nop = counted (instr (Op.Control ControlOp.Nop) (record { pred = 0; negate = false }) 0 0 0 0 0 0) 1
 
 -- the words w and v, once their operation has been looked up
-abbrev pub saidBy : FoundOp → ℕ → ℕ → Instr
+abbrev pub saidBy : FoundOp → ℕ → ℕ → Fetched
 saidBy FoundOp.Missing w v = nop
-saidBy (FoundOp.Carried o) w v = instrIn (limitsOf o .second) o w v
+saidBy (FoundOp.Carried o) w v = counted (instrIn (limitsOf o .second) o w v) (size o)
 
-abbrev pub saidFrom : List ℕ → Instr
+abbrev pub saidFrom : List ℕ → Fetched
 saidFrom [] = nop
 saidFrom (w ∷ ws) = saidBy (opOf (opcodeIn w) (modifierIn w)) w (getD ws 0 0)
 
--- the instruction at a place; NOP where no word stands, or none that names an operation
-unfoldable pub instrAt : List ℕ → ℕ → Instr
-instrAt ws at = saidFrom (drop at ws)
+-- what is fetched at a place: NOP where no word stands, or none that names an operation
+unfoldable pub fetchAt : List ℕ → ℕ → Fetched
+fetchAt ws at = saidFrom (drop at ws)
+
+abbrev pub instrAt : List ℕ → ℕ → Instr
+instrAt ws at = fetchAt ws at .instr
 
 -- the control operation that an operation is, if it is one
 abbrev pub controlIn : Op → ControlIn

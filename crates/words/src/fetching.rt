@@ -1,6 +1,7 @@
 // The instruction at a place of code that has passed the check: what its words say, with no test of them.
 use crate::reading::instr_in;
 use crate::reading::word_at;
+use instructions::forms::Second;
 use instructions::forms::limits_of;
 use instructions::instr::ControlOp;
 use instructions::instr::Guard;
@@ -10,10 +11,16 @@ use instructions::table::FoundOp;
 use instructions::table::memory_or_control_op;
 use instructions::table::register_op;
 ghost use mathlib.Core.Path.{_≡_};
-ghost use Rattle.words.specs.Fetching.{nop, instrAt, controlIn};
-ghost use Rattle.instructions.specs.Forms.{size};
+ghost use Rattle.words.specs.Fetching.{nop, fetchAt, controlIn};
+ghost use Rattle.instructions.specs.Forms.{sizeOf};
 ghost use Rattle.words.specs.Layout.{opcodeIn, modifierIn};
 ghost use Rattle.instructions.specs.Table.{opOf};
+
+// An instruction, and how many words it has.
+pub struct Fetched {
+    pub instr: Instr,
+    pub words: u32,
+}
 
 // A control operation, or any other.
 pub enum ControlIn {
@@ -22,21 +29,24 @@ pub enum ControlIn {
 }
 
 // NOP, for every lane.
-fn no_operation() -> Instr
+fn no_operation() -> Fetched
     ensures { λ r. ⌜ r ≡ nop ⌝ }
 {
-    Instr {
-        op: Op::Control(ControlOp::Nop),
-        guard: Guard {
-            pred: 0,
-            negate: false,
+    Fetched {
+        instr: Instr {
+            op: Op::Control(ControlOp::Nop),
+            guard: Guard {
+                pred: 0,
+                negate: false,
+            },
+            rd: 0,
+            rs1: 0,
+            rs2: 0,
+            rs3: 0,
+            scope: 0,
+            number: 0,
         },
-        rd: 0,
-        rs1: 0,
-        rs2: 0,
-        rs3: 0,
-        scope: 0,
-        number: 0,
+        words: 1,
     }
 }
 
@@ -52,9 +62,20 @@ fn op_in(first: u32) -> FoundOp
     register_op(opcode, modifier)
 }
 
+// How many words an instruction with this second word has.
+fn count_with(second: Second) -> u32
+    ensures { λ r. ⌜ r ≡ sizeOf second ⌝ }
+{
+    match second {
+        Second::Nothing => 1,
+        Second::Number => 2,
+        Second::Registers(_, _, _) => 2,
+    }
+}
+
 // What the words at a place say. NOP where no word stands, or none that names an operation.
-pub fn instr_at(words: &[u32], at: usize) -> Instr
-    ensures { λ r. ⌜ r ≡ instrAt (now (words .entry)) at ⌝ }
+pub fn fetch_at(words: &[u32], at: usize) -> Fetched
+    ensures { λ r. ⌜ r ≡ fetchAt (now (words .entry)) at ⌝ }
 {
     if words.len() <= at {
         return no_operation();
@@ -67,7 +88,10 @@ pub fn instr_at(words: &[u32], at: usize) -> Instr
     let limits = limits_of(op);
     let second = limits.second;
     let word = word_at(words, at + 1);
-    instr_in(second, op, first, word)
+    Fetched {
+        instr: instr_in(second, op, first, word),
+        words: count_with(second),
+    }
 }
 
 // Which control operation an operation is, if it is one.
@@ -85,23 +109,5 @@ pub fn control_in(op: Op) -> ControlIn
         Op::Store(_) => ControlIn::Other,
         Op::Atomic(_) => ControlIn::Other,
         Op::Cas => ControlIn::Other,
-    }
-}
-
-// How many words an operation's instructions have.
-pub fn word_count(op: Op) -> u32
-    ensures { λ r. ⌜ r ≡ size op ⌝ }
-{
-    match op {
-        Op::Two(_) => 2,
-        Op::Compare(_) => 2,
-        Op::One(_) => 1,
-        Op::Special => 1,
-        Op::Number => 2,
-        Op::Load(_) => 2,
-        Op::Store(_) => 2,
-        Op::Atomic(_) => 2,
-        Op::Cas => 2,
-        Op::Control(_) => 1,
     }
 }

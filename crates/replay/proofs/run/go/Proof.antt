@@ -44,8 +44,8 @@ turn z =
       going = asked .before .loop .inv;
       unended = sym (asked .has-ended .ensures) ∙ left .before .if1 .left;
       unspent = left .if2 .left;
-      instr = _;
-      reads = read .instr-at .ensures;
+      fetched = _;
+      reads = read .fetch-at .ensures;
       steps = made .step .ensures;
       same = record { regs = regs .regs .given; device = device .device .given; local = local .local .given };
     }

@@ -10,7 +10,7 @@ use Rattle.replay.proofs.step.ordinary.Tie as tie
 worked : (z : tie.After-is-clear) →
     let made = z .before .before .before .before .before .before .before .before in
     let named = made .before .before .before .before in
-    let a = named .before .before .before .before .args in
+    let a = named .before .before .before .before .before .args in
     let l = made .carry-out .last .1 .1 .1 .1 in
     Worked (a .settings) (a .x) (a .t) (a .h) (lent (named .named-set .result) (a .regs .now) (a .device .now) (a .local .now))
     (carried (made .carry-out .result) (l .0) (l .1 .0) (l .1 .1 .0)) (z .is-clear .result)
@@ -24,9 +24,8 @@ worked z =
 
 returns : tie.Need-returns
 returns c = λ path.
-    let clear = c .before .before .before in
-    ordinary-on (worked (clear .before)) path (c .before .before .word-count .ensures) (c .before .onward-by .ensures)
-    (c .with-named .ensures) (clear .if1 .taken)
+    let clear = c .before .before in
+    ordinary-on (worked (clear .before)) path (c .before .onward-by .ensures) (c .with-named .ensures) (clear .if1 .taken)
 
 returns-2 : tie.Need-returns-2
 returns-2 c = λ path. ordinary-off (worked (c .before)) path (c .if1 .left)
@@ -34,5 +33,5 @@ returns-2 c = λ path. ordinary-off (worked (c .before)) path (c .if1 .left)
 pub ordinary-spec : {M : Type 1} → statement M
 ordinary-spec = tie.close (tie.spec
     (λ c κs. search needs) (λ c κs. search needs) (λ c κs. search needs) (λ c κs. search needs) (λ c κs. search needs)
-    (λ c κs. search needs) (λ c. search needs) (λ c. search needs) (λ c. search needs) returns (λ c. search needs)
+    (λ c. search needs) (λ c. search needs) (λ c. search needs) returns (λ c. search needs)
     (λ c. search needs) (λ c. search needs) returns-2)

@@ -7,7 +7,7 @@ use Rattle.replay.proofs.step.step.Tie as tie
 
 -- what is known once the instruction was looked at
 looked : (z : tie.After-control-in) →
-    let a = z .before .before .before .before .before .before .args in
+    let a = z .before .before .before .before .before .before .before .args in
     Looked (a .x) (a .h) (z .before .executing .result) (z .control-in .result)
 looked z = record { lanes = z .before .executing .ensures; is = z .control-in .ensures }
 
@@ -17,7 +17,7 @@ returns c =
     let counted = ruled .before .before in
     let known = counted .before .before .before .before in
     let read = known .before .before in
-    let a = read .before .before .before .before .before .before .args in
+    let a = read .before .before .before .before .before .before .before .args in
     step-control (looked read) (known .kind .given .1) _ (a .path .now) (counted .first .ensures) (counted .before .whole .ensures)
     (ruled .control .ensures) (c .of-barrier .ensures)
 
