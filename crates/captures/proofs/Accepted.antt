@@ -1,13 +1,13 @@
 -- A file that breaks no rule: what the tests say of it, and what reading it leaves in the buffers.
 use mathlib.Core.Path.{_≡_, refl}
-use Prim.Native.Nat.{ℕ, _+_, _*_, _≤_}
+use Prim.Native.Nat.{ℕ, _≤_}
 use mathlib.Core.Bool.{Bool, true, false, _||_}
 use mathlib.Core.List.{List}
 use native.Mathlib.Omega.{arith}
 use lib.Dec.{ltb, eqb}
 use lib.ListN.{length}
 use borrow.Author.Tests.{leb-true, le-leb, le-ltb, eqb-true, eq-eqb}
-use Rattle.numbers.specs.Numbers.{numberAt}
+use Rattle.numbers.specs.Numbers.{numberAt, numbersAt}
 use Rattle.numbers.specs.Placed.{placed}
 use Rattle.captures.specs.declared.answer.Head.{Head}
 use Rattle.captures.specs.declared.answer.Counts.{Counts}
@@ -16,8 +16,8 @@ use Rattle.captures.specs.declared.answer.ReadAnswer.the-variants.{Read,
 use Rattle.captures.specs.declared.testing.Verdict.{Verdict}
 use Rattle.captures.specs.declared.testing.Verdict.the-variants.{Fine, Broken}
 use Rattle.captures.specs.declared.testing.Places.{Places}
-use Rattle.captures.specs.Capture.{mark, edition, headerBytes, stateWords, sixthCount}
-use Rattle.captures.specs.Read.{headAt, countsAt, placesOf, numbersAt, captureIn, next, depthOf, testHead, testRooms, testState, verdictOf}
+use Rattle.captures.specs.Capture.{mark, edition, markPlace, editionPlace, kernelPlace, sixthCount, headerBytes, stateSize}
+use Rattle.captures.specs.Read.{headAt, countsAt, placesOf, captureIn, next, depthOf, testHead, testRooms, testState, verdictOf}
 use Rattle.captures.specs.Read.{Lent, lent, roomsOf, Within, filled, reading, judged, readOf}
 
 -- ---- what the tests say
@@ -36,10 +36,10 @@ next-so v h r p e k = rw (e, k)
 -- the header of a file that breaks no rule, its length, and its state's depth
 pub record Accepted (f : List ℕ) (rooms : Counts) : Type 0 where
   pub long : headerBytes ≤ length f
-  pub marked : numberAt f 0 ≡ mark
-  pub edited : numberAt f 4 ≡ edition
+  pub marked : numberAt f markPlace ≡ mark
+  pub edited : numberAt f editionPlace ≡ edition
   pub within : Within (countsAt f) rooms
-  pub shape : (eqb (countsAt f .state) 0 || eqb (countsAt f .state) (stateWords (depthOf (countsAt f .state)))) ≡ true
+  pub shape : (eqb (countsAt f .state) 0 || eqb (countsAt f .state) (stateSize (depthOf (countsAt f .state)))) ≡ true
   pub sixth : numberAt f sixthCount ≡ 0
   pub whole : length f ≡ placesOf (countsAt f) .end
   pub deep : (eqb (countsAt f .state) 0 || eqb (numberAt f (placesOf (countsAt f) .depth)) (depthOf (countsAt f .state))) ≡ true
@@ -63,8 +63,8 @@ module _ (f : List ℕ) (rooms : Counts) where
       let long : headerBytes ≤ length f = leb-true _ _ (l .1) in
       record {
         long = long;
-        marked = eqb-true _ _ (rw (le-ltb (length f) 4 (omega arith)) at (a .1));
-        edited = eqb-true _ _ (rw (le-ltb (length f) 8 (omega arith)) at (b .1));
+        marked = eqb-true _ _ (rw (le-ltb (length f) editionPlace (omega arith)) at (a .1));
+        edited = eqb-true _ _ (rw (le-ltb (length f) kernelPlace (omega arith)) at (b .1));
         within =
             record {
               code = leb-true _ _ (r1 .1);
@@ -83,8 +83,10 @@ module _ (f : List ℕ) (rooms : Counts) where
   unfolding verdictOf testState testRooms testHead
   is-accepted a =
       let long = a .long in
-      let m : (ltb (length f) 4 || eqb (numberAt f 0) mark) ≡ true = rw (le-ltb (length f) 4 (omega arith)) (eq-eqb _ _ (a .marked)) in
-      let d : (ltb (length f) 8 || eqb (numberAt f 4) edition) ≡ true = rw (le-ltb (length f) 8 (omega arith)) (eq-eqb _ _ (a .edited)) in
+      let m : (ltb (length f) editionPlace || eqb (numberAt f markPlace) mark) ≡ true =
+      rw (le-ltb (length f) editionPlace (omega arith)) (eq-eqb _ _ (a .marked)) in
+      let d : (ltb (length f) kernelPlace || eqb (numberAt f editionPlace) edition) ≡ true =
+      rw (le-ltb (length f) kernelPlace (omega arith)) (eq-eqb _ _ (a .edited)) in
       next-so _ _ _ _
       (next-so _ _ _ _
       (next-so _ _ _ _
@@ -105,29 +107,11 @@ module _ (f : List ℕ) (rooms : Counts) where
       (eq-eqb _ _ (a .whole)))
       (a .deep)
 
--- ---- the words stand in the file, and there is room for them
+-- ---- there is room for the words
 
 module _ (f : List ℕ) (l : Lent) (v : verdictOf f (roomsOf l) ≡ Fine) (n : Counts) (en : n ≡ countsAt f) where
-  pub room-code : (headerBytes + 4 * n .code ≤ length f) × (n .code ≤ length (l .code))
-  unfolding placesOf roomsOf
-  room-code = let a = accepted f (roomsOf l) v in let w = a .whole in rw en (omega arith, a .within .code)
-
-  module _ (at : Places) (et : at ≡ placesOf (countsAt f)) where
-    pub room-registers : (at .registers + 4 * n .registers ≤ length f) × (n .registers ≤ length (l .registers))
-    unfolding placesOf roomsOf
-    room-registers = let a = accepted f (roomsOf l) v in let w = a .whole in rw (en, et) (omega arith, a .within .registers)
-
-    pub room-device : (at .device + 4 * n .device ≤ length f) × (n .device ≤ length (l .device))
-    unfolding placesOf roomsOf
-    room-device = let a = accepted f (roomsOf l) v in let w = a .whole in rw (en, et) (omega arith, a .within .device)
-
-    pub room-local : (at .local + 4 * n .local ≤ length f) × (n .local ≤ length (l .local))
-    unfolding placesOf roomsOf
-    room-local = let a = accepted f (roomsOf l) v in let w = a .whole in rw (en, et) (omega arith, a .within .local)
-
-    pub room-state : (at .state + 4 * n .state ≤ length f) × (n .state ≤ length (l .state))
-    unfolding placesOf roomsOf
-    room-state = let a = accepted f (roomsOf l) v in let w = a .whole in rw (en, et) (omega arith, a .within .state)
+  pub room-for : Within n (roomsOf l)
+  room-for = rw en (accepted f (roomsOf l) v .within)
 
 -- ---- the words taken
 

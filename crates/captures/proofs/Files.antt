@@ -11,14 +11,14 @@ use lib.ListN.{length, getD, drop}
 use lib.Seq.{drop-length}
 use borrow.Author.Tests.{eqb-true, eq-eqb}
 use Rattle.ground.proofs.Tests.{or-cases}
-use Rattle.numbers.specs.Numbers.{bytesOfAll, numberAt, Bytes, Small}
+use Rattle.numbers.specs.Numbers.{bytesOfAll, numberAt, numbersAt, Bytes, Small}
 use Rattle.numbers.proofs.Numerals.{small-nil, small-cons, small-append, Stand, stand-nth, stand-front, stand-rest, Holds, holds-join}
+use Rattle.numbers.proofs.Words.{length-numbers, getD-numbers, numbers-back, numbers-hold, numbers-small}
 use Rattle.captures.specs.declared.answer.Counts.{Counts}
 use Rattle.captures.specs.declared.testing.Places.{Places}
-use Rattle.captures.specs.Capture.{mark, edition, headerBytes, Capture, headOf, headerOf, wordsOf, captureOf}
-use Rattle.captures.specs.Capture.{stateWords, stateFits, fits, Filed, depthWord}
-use Rattle.captures.specs.Read.{headAt, countsAt, placesOf, numbersAt, captureIn, depthOf, countsOf, Within}
-use Rattle.captures.proofs.Words.{length-numbers, getD-numbers, numbers-back, numbers-hold, numbers-small}
+use Rattle.captures.specs.Capture.{mark, edition, headerBytes, Capture, headOf, headerOf, partsOf, captureOf}
+use Rattle.captures.specs.Capture.{stateSize, stateFits, fits, Filed, depthWord}
+use Rattle.captures.specs.Read.{headAt, countsAt, placesOf, captureIn, depthOf, countsOf, Within}
 use Rattle.captures.proofs.Laid.{fits-known, known-fits, length-capture}
 use Rattle.captures.proofs.Accepted.{Accepted}
 
@@ -26,56 +26,56 @@ use Rattle.captures.proofs.Accepted.{Accepted}
 
 module _ (n d word : ℕ) (same : 6 < n → word ≡ d) where
   -- the words of a state have a state's count ...
-  shape-so : (eqb n 0 || eqb n (stateWords d)) ≡ true → (eqb n 0 || eqb n (stateWords (depthOf n))) ≡ true
+  shape-so : (eqb n 0 || eqb n (stateSize d)) ≡ true → (eqb n 0 || eqb n (stateSize (depthOf n))) ≡ true
   unfolding depthOf
   shape-so e =
       ⊎-elim
       (λ (z : eqb n 0 ≡ true). rw z)
-      (λ (z : eqb n (stateWords d) ≡ true).
-      let w = eqb-true n (stateWords d) z in
-      rw (eq-eqb n (stateWords (depthOf n)) (omega arith)) (or-true (eqb n 0)))
-      (or-cases (eqb n 0) (eqb n (stateWords d)) e)
+      (λ (z : eqb n (stateSize d) ≡ true).
+      let w = eqb-true n (stateSize d) z in
+      rw (eq-eqb n (stateSize (depthOf n)) (omega arith)) (or-true (eqb n 0)))
+      (or-cases (eqb n 0) (eqb n (stateSize d)) e)
 
   -- ... and the depth that it gives
-  deep-so : (eqb n 0 || eqb n (stateWords d)) ≡ true → (eqb n 0 || eqb word (depthOf n)) ≡ true
+  deep-so : (eqb n 0 || eqb n (stateSize d)) ≡ true → (eqb n 0 || eqb word (depthOf n)) ≡ true
   unfolding depthOf
   deep-so e =
       ⊎-elim
       (λ (z : eqb n 0 ≡ true). rw z)
-      (λ (z : eqb n (stateWords d) ≡ true).
-      let w = eqb-true n (stateWords d) z in
+      (λ (z : eqb n (stateSize d) ≡ true).
+      let w = eqb-true n (stateSize d) z in
       let y = same (omega arith) in
       rw (eq-eqb word (depthOf n) (omega arith)) (or-true (eqb n 0)))
-      (or-cases (eqb n 0) (eqb n (stateWords d)) e)
+      (or-cases (eqb n 0) (eqb n (stateSize d)) e)
 
   -- words with both are a state's
-  state-so : (eqb n 0 || eqb n (stateWords (depthOf n))) ≡ true → (eqb n 0 || eqb word (depthOf n)) ≡ true
-      → (eqb n 0 || eqb n (stateWords d)) ≡ true
+  state-so : (eqb n 0 || eqb n (stateSize (depthOf n))) ≡ true → (eqb n 0 || eqb word (depthOf n)) ≡ true
+      → (eqb n 0 || eqb n (stateSize d)) ≡ true
   state-so e k =
       ⊎-elim
       (λ (z : eqb n 0 ≡ true). rw z)
-      (λ (z : eqb n (stateWords (depthOf n)) ≡ true).
+      (λ (z : eqb n (stateSize (depthOf n)) ≡ true).
       ⊎-elim
       (λ (y : eqb n 0 ≡ true). rw y)
       (λ (y : eqb word (depthOf n) ≡ true).
-      let w = eqb-true n (stateWords (depthOf n)) z in
+      let w = eqb-true n (stateSize (depthOf n)) z in
       let x = eqb-true word (depthOf n) y in
       let v = same (omega arith) in
-      rw (eq-eqb n (stateWords d) (omega arith)) (or-true (eqb n 0)))
+      rw (eq-eqb n (stateSize d) (omega arith)) (or-true (eqb n 0)))
       (or-cases (eqb n 0) (eqb word (depthOf n)) k))
-      (or-cases (eqb n 0) (eqb n (stateWords (depthOf n))) e)
+      (or-cases (eqb n 0) (eqb n (stateSize (depthOf n))) e)
 
 -- ---- from a capture to its file and back
 
 module _ (c : Capture) (g : Filed c) where
-  file-stands : Stand (captureOf c) [] 0 (headerOf c ++ wordsOf c)
+  file-stands : Stand (captureOf c) [] 0 (headerOf c ++ partsOf c)
   unfolding captureOf
-  file-stands = record { small = g .small; bytes = sym (append-nil (bytesOfAll (headerOf c ++ wordsOf c))) }
+  file-stands = record { small = g .small; bytes = sym (append-nil (bytesOfAll (headerOf c ++ partsOf c))) }
 
   -- a number of the header
   header-at : (i : ℕ) → i < 13 → numberAt (captureOf c) (4 * i) ≡ getD (headerOf c) i 0
   unfolding headerOf
-  header-at i h = stand-nth (headerOf c) (stand-front (headerOf c) (wordsOf c) file-stands) (4 * i) i (omega arith) h
+  header-at i h = stand-nth (headerOf c) (stand-front (headerOf c) (partsOf c) file-stands) (4 * i) i (omega arith) h
 
   pub head-back : headAt (captureOf c) ≡ c .head
   unfolding headAt headerOf
@@ -93,12 +93,12 @@ module _ (c : Capture) (g : Filed c) where
   abbrev at : Places
   at = placesOf (countsOf c)
 
-  at-code : Stand (captureOf c) [] headerBytes (wordsOf c)
+  at-code : Stand (captureOf c) [] headerBytes (partsOf c)
   unfolding headerOf
-  at-code = stand-rest (headerOf c) (wordsOf c) file-stands
+  at-code = stand-rest (headerOf c) (partsOf c) file-stands
 
   at-registers : Stand (captureOf c) [] (at .registers) (c .registers ++ (c .device ++ (c .local ++ c .state)))
-  unfolding placesOf countsOf wordsOf
+  unfolding placesOf countsOf partsOf
   at-registers = stand-rest (c .code) _ at-code
 
   at-device : Stand (captureOf c) [] (at .device) (c .device ++ (c .local ++ c .state))
@@ -115,7 +115,7 @@ module _ (c : Capture) (g : Filed c) where
 
   -- a capture comes back from its file
   pub capture-back : captureIn (captureOf c) ≡ c
-  unfolding captureIn placesOf countsOf wordsOf
+  unfolding captureIn placesOf countsOf partsOf
   capture-back =
       rw (
         counts-back,
@@ -158,7 +158,7 @@ module _ (f : List ℕ) (by : Bytes f) (rooms : Counts) (a : Accepted f rooms) w
 
   -- the bytes of a file that breaks no rule are those of its numbers
   pub file-back : captureOf (captureIn f) ≡ f
-  unfolding captureOf wordsOf captureIn placesOf
+  unfolding captureOf partsOf captureIn placesOf
   file-back =
       let n = countsAt f in
       let at = placesOf n in
@@ -179,7 +179,7 @@ module _ (f : List ℕ) (by : Bytes f) (rooms : Counts) (a : Accepted f rooms) w
 
   -- and its capture is one that a file is of
   pub file-filed : Filed (captureIn f)
-  unfolding wordsOf captureIn stateFits placesOf
+  unfolding partsOf captureIn stateFits placesOf
   file-filed =
       let n = countsAt f in
       let at = placesOf n in
@@ -209,11 +209,11 @@ module _ (c : Capture) where
       (record { code = h .below 7; registers = h .below 8; device = h .below 9; local = h .below 10; state = h .below 11; shape = g .shape })
 
   -- a capture of words that has a file
-  pub fits-filed : fits c ≡ true → Small (headOf c) → Small (wordsOf c) → Filed c
+  pub fits-filed : fits c ≡ true → Small (headOf c) → Small (partsOf c) → Filed c
   unfolding headerOf
   fits-filed e h w =
       let k = fits-known c e in
-      let rest = small-append (0 ∷ []) (wordsOf c) (small-cons 0 [] (omega arith) small-nil) w in
+      let rest = small-append (0 ∷ []) (partsOf c) (small-cons 0 [] (omega arith) small-nil) w in
       let from-device = small-cons _ _ (k .device) (small-cons _ _ (k .local) (small-cons _ _ (k .state) rest)) in
       let from-code = small-cons _ _ (k .code) (small-cons _ _ (k .registers) from-device) in
       record {

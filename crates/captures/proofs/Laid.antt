@@ -12,9 +12,10 @@ use Rattle.numbers.specs.Numbers.{bound, bytesOfAll}
 use Rattle.numbers.specs.Placed.{placed}
 use Rattle.numbers.proofs.Numerals.{length-bytesOfAll}
 use Rattle.numbers.proofs.Behind.{behind}
+use Rattle.refusals.specs.Table.{Rule, broken}
 use Rattle.captures.specs.declared.answer.WriteAnswer.the-variants.{Wrote, Refused}
-use Rattle.captures.specs.Capture.{headerBytes, Capture, headerOf, wordsOf, captureOf, stateFits, fits}
-use Rattle.captures.specs.Write.{short, notOfLayout, wrote, writeOf}
+use Rattle.captures.specs.Capture.{headerBytes, Capture, headerOf, partsOf, captureOf, stateFits, fits}
+use Rattle.captures.specs.Write.{wrote, writeOf}
 
 -- ---- which captures have a file
 
@@ -70,9 +71,9 @@ abbrev wordCount : Capture → ℕ
 wordCount c = length (c .code) + length (c .registers) + length (c .device) + length (c .local) + length (c .state)
 
 pub length-capture : (c : Capture) → length (captureOf c) ≡ headerBytes + 4 * wordCount c
-unfolding captureOf headerOf wordsOf
+unfolding captureOf headerOf partsOf
 length-capture c =
-    let b = length-bytesOfAll (headerOf c ++ wordsOf c) in
+    let b = length-bytesOfAll (headerOf c ++ partsOf c) in
     let w = length-append (c .code) (c .registers ++ (c .device ++ (c .local ++ c .state))) in
     let x = length-append (c .registers) (c .device ++ (c .local ++ c .state)) in
     let y = length-append (c .device) (c .local ++ c .state) in
@@ -88,7 +89,7 @@ module _ (c : Capture) (o o₁ o₂ o₃ o₄ o₅ o₆ : List ℕ) (registers d
       → o₃ ≡ placed o₂ registers (bytesOfAll (c .registers)) → o₄ ≡ placed o₃ device (bytesOfAll (c .device))
       → o₅ ≡ placed o₄ local (bytesOfAll (c .local)) → o₆ ≡ placed o₅ state (bytesOfAll (c .state))
       → o₆ ≡ placed o 0 (captureOf c)
-  unfolding captureOf headerOf wordsOf
+  unfolding captureOf headerOf partsOf
   laid e1 e2 e3 e4 e5 e6 =
       let h5 = behind (c .local) (c .state) o₄ o₅ o₆ local state s e5 e6 in
       let h4 = behind (c .device) _ o₃ o₄ o₆ device local l e4 h5 in
@@ -99,11 +100,11 @@ module _ (c : Capture) (o o₁ o₂ o₃ o₄ o₅ o₆ : List ℕ) (registers d
 -- ---- the answer
 
 module _ (c : Capture) (o : List ℕ) where
-  pub write-not : fits c ≡ false → wrote (Refused notOfLayout 0) o ≡ writeOf c o
+  pub write-not : fits c ≡ false → wrote (Refused (broken Rule.not-of-layout 0)) o ≡ writeOf c o
   unfolding writeOf
   write-not e = rw e
 
-  pub write-short : fits c ≡ true → length o < headerBytes + 4 * wordCount c → wrote (Refused short 0) o ≡ writeOf c o
+  pub write-short : fits c ≡ true → length o < headerBytes + 4 * wordCount c → wrote (Refused (broken Rule.short 0)) o ≡ writeOf c o
   unfolding writeOf
   write-short e h = let l = length-capture c in rw (e, lt-leb (length (captureOf c)) (length o) (omega arith))
 

@@ -13,28 +13,30 @@ use Rattle.captures.specs.declared.testing.Verdict.{Verdict}
 use Rattle.captures.specs.declared.testing.Verdict.the-variants.{Fine, Broken}
 use Rattle.captures.specs.declared.answer.Counts.{Counts}
 use Rattle.captures.specs.declared.testing.Places.{Places}
-use Rattle.captures.specs.Capture.{mark, edition, headerBytes, stateWords, stateFits, depthWord}
+use Rattle.captures.specs.Capture.{mark, edition, markPlace, editionPlace, kernelPlace, widthPlace, registersPlace, lanesPlace, budgetPlace}
+use Rattle.captures.specs.Capture.{headerBytes, hotWords, stateSize, stateFits, depthWord}
 use Rattle.captures.specs.Capture.{codeCount, registersCount, deviceCount, localCount, stateCount, sixthCount}
 use Rattle.captures.specs.Read.{headAt, countsAt, placesOf, next, depthOf, testHead, testRooms, testState, verdictOf}
 
 -- ---- a state's words
 
-pub state-short : (s : List ℕ) → length s < 7 → eqb (length s) 0 ≡ stateFits s
+pub state-short : (s : List ℕ) → length s < hotWords → eqb (length s) 0 ≡ stateFits s
 unfolding stateFits
-state-short s h = rw (ne-eqb (length s) (stateWords (getD s depthWord 0)) (λ e. omega arith)) (sym (or-false (eqb (length s) 0)))
+state-short s h = rw (ne-eqb (length s) (stateSize (getD s depthWord 0)) (λ e. omega arith)) (sym (or-false (eqb (length s) 0)))
 
-pub state-long : (s : List ℕ) → 7 ≤ length s → eqb (length s) (stateWords (getD s depthWord 0)) ≡ stateFits s
+pub state-long : (s : List ℕ) → hotWords ≤ length s → eqb (length s) (stateSize (getD s depthWord 0)) ≡ stateFits s
 unfolding stateFits
 state-long s h = rw (ne-eqb (length s) 0 (λ e. omega arith))
 
-pub depth-short : (n : ℕ) → n < 7 → 0 ≡ depthOf n
+pub depth-short : (n : ℕ) → n < hotWords → 0 ≡ depthOf n
 unfolding depthOf
 depth-short n h = omega arith
 
 -- ---- the header's numbers
 
 module _ (f : List ℕ) (a b c d e : ℕ) where
-  pub head-so : a ≡ numberAt f 8 → b ≡ numberAt f 12 → c ≡ numberAt f 16 → d ≡ numberAt f 20 → e ≡ numberAt f 24
+  pub head-so : a ≡ numberAt f kernelPlace → b ≡ numberAt f widthPlace → c ≡ numberAt f registersPlace
+      → d ≡ numberAt f lanesPlace → e ≡ numberAt f budgetPlace
       → record { kernel = a; width = b; registers = c; lanes = d; budget = e } ≡ headAt f
   unfolding headAt
   head-so ea eb ec ed ee = rw (ea, eb, ec, ed, ee)
@@ -68,8 +70,8 @@ module _ (v : Verdict) (holds : Bool) (rule : Rule) (place : ℕ) where
 -- ---- the tests one after another
 
 module _ (f : List ℕ) (m n : ℕ) (a b c : Verdict) where
-  pub head-tested : m ≡ numberAt f 0 → a ≡ next Fine (ltb (length f) 4 || eqb m mark) Rule.Mark 0
-      → n ≡ numberAt f 4 → b ≡ next a (ltb (length f) 8 || eqb n edition) Rule.Edition 4
+  pub head-tested : m ≡ numberAt f markPlace → a ≡ next Fine (ltb (length f) editionPlace || eqb m mark) Rule.Mark markPlace
+      → n ≡ numberAt f editionPlace → b ≡ next a (ltb (length f) kernelPlace || eqb n edition) Rule.Edition editionPlace
       → c ≡ next b (leb headerBytes (length f)) Rule.Header (4 * (length f / 4)) → c ≡ testHead f
   unfolding testHead
   head-tested em ea en eb ec = rw (ec, eb, ea, em, en)
@@ -84,7 +86,7 @@ module _ (v : Verdict) (n rooms : Counts) (a b c d e : Verdict) where
 
 module _ (v : Verdict) (f : List ℕ) (n depth : ℕ) (at : Places)
     (en : n ≡ numberAt f stateCount) (ep : depth ≡ depthOf n) (et : at ≡ placesOf (countsAt f)) where
-  pub state-tested : (six least word : ℕ) (a b c d : Verdict) → a ≡ next v (eqb n 0 || eqb n (stateWords depth)) Rule.StateCount stateCount
+  pub state-tested : (six least word : ℕ) (a b c d : Verdict) → a ≡ next v (eqb n 0 || eqb n (stateSize depth)) Rule.StateCount stateCount
       → six ≡ numberAt f sixthCount → b ≡ next a (eqb six 0) Rule.SixthCount sixthCount
       → least ≡ min (length f) (at .end) → c ≡ next b (eqb (length f) (at .end)) Rule.Length least
       → word ≡ numberAt f (at .depth) → d ≡ next c (eqb n 0 || eqb word depth) Rule.Depth (at .depth) → d ≡ testState v f
@@ -97,6 +99,6 @@ unfolding verdictOf
 all-tested f n rooms a b c ea en eb ec = rw (ec, eb, en, ea)
 
 -- a state's words fit the machine's numbers
-pub depth-small : (n d : ℕ) → d ≡ depthOf n → n < bound → stateWords d < bound + 7
+pub depth-small : (n d : ℕ) → d ≡ depthOf n → n < bound → stateSize d < bound + hotWords
 unfolding depthOf
 depth-small n d e h = omega arith

@@ -13,6 +13,8 @@ use Rattle.ground.proofs.Choices.{cond-by}
 use Rattle.ground.proofs.Tests.{true-or-false}
 use Rattle.numbers.specs.Numbers.{Bytes, Small}
 use Rattle.numbers.proofs.Placing.{placed-front}
+use Rattle.refusals.specs.declared.Refusal.{Refusal}
+use Rattle.refusals.specs.Table.{Rule as Page, broken}
 use Rattle.captures.specs.declared.answer.Head.{Head}
 use Rattle.captures.specs.declared.answer.Counts.{Counts}
 use Rattle.captures.specs.declared.answer.Rule.{Rule}
@@ -20,8 +22,8 @@ use Rattle.captures.specs.declared.answer.ReadAnswer.the-variants.{Read,
 use Rattle.captures.specs.declared.answer.WriteAnswer.the-variants.{Wrote, Refused}
 use Rattle.captures.specs.declared.testing.Verdict.{Verdict}
 use Rattle.captures.specs.declared.testing.Verdict.the-variants.{Fine, Broken}
-use Rattle.captures.specs.Capture.{Capture, headOf, wordsOf, captureOf, fits, Filed}
-use Rattle.captures.specs.Write.{short, notOfLayout, Writing, writeOf}
+use Rattle.captures.specs.Capture.{Capture, headOf, partsOf, captureOf, fits, Filed}
+use Rattle.captures.specs.Write.{Writing, writeOf}
 use Rattle.captures.specs.Read.{captureIn, verdictOf, Lent, roomsOf, countsOf, Within, filled, reading, judged, readOf}
 use Rattle.captures.proofs.Laid.{write-so}
 use Rattle.captures.proofs.Accepted.{accepted, is-accepted, read-fine}
@@ -97,8 +99,8 @@ given-read f l g = ap (λ (x : List ℕ). readOf x l) (sym (g .file)) ∙ read-b
 
 -- ---- written files
 
-refused-unwritten : (r p n : ℕ) → Refused r p ≡ Wrote n → ⊥
-refused-unwritten r p n e = let z : _≡_ {A = ℕ} 0 1 = cc in omega arith
+refused-unwritten : (r : Refusal) (n : ℕ) → Refused r ≡ Wrote n → ⊥
+refused-unwritten r n e = let z : _≡_ {A = ℕ} 0 1 = cc in omega arith
 
 write-tells : (c : Capture) (o : List ℕ) (n : ℕ) → writeOf c o .answer ≡ Wrote n
     → (fits c ≡ true) × (length (captureOf c) ≤ length o) × (length (captureOf c) ≡ n)
@@ -110,13 +112,13 @@ write-tells c o n e =
     (λ (k : leb (length (captureOf c)) (length o) ≡ true).
     let y : Wrote (length (captureOf c)) ≡ Wrote n = simp (h, k) at e in
     (h, leb-true _ _ k, cc))
-    (λ (k : leb (length (captureOf c)) (length o) ≡ false). absurd (refused-unwritten short 0 n (simp (h, k) at e)))
+    (λ (k : leb (length (captureOf c)) (length o) ≡ false). absurd (refused-unwritten (broken Page.short 0) n (simp (h, k) at e)))
     (true-or-false (leb (length (captureOf c)) (length o))))
-    (λ (h : fits c ≡ false). absurd (refused-unwritten notOfLayout 0 n (simp h at e)))
+    (λ (h : fits c ≡ false). absurd (refused-unwritten (broken Page.not-of-layout 0) n (simp h at e)))
     (true-or-false (fits c))
 
 -- THEOREM: what was written is the file of a capture, for numbers of four bytes
-pub written-given : (c : Capture) (o : List ℕ) (n : ℕ) → Small (headOf c) → Small (wordsOf c) → writeOf c o .answer ≡ Wrote n
+pub written-given : (c : Capture) (o : List ℕ) (n : ℕ) → Small (headOf c) → Small (partsOf c) → writeOf c o .answer ≡ Wrote n
     → Given (take n (writeOf c o .file)) (countsOf c)
 written-given c o n h w e =
     let t = write-tells c o n e in
@@ -140,12 +142,12 @@ unfolding readOf
 read-refused-keeps f l r p e = refusal-keeps (verdictOf f (roomsOf l)) f l r p e
 
 -- nor does a capture that isn't written
-pub write-refused-keeps : (c : Capture) (o : List ℕ) (n p : ℕ) → writeOf c o .answer ≡ Refused n p → writeOf c o .file ≡ o
+pub write-refused-keeps : (c : Capture) (o : List ℕ) (r : Refusal) → writeOf c o .answer ≡ Refused r → writeOf c o .file ≡ o
 unfolding writeOf
-write-refused-keeps c o n p =
-    cond-by (λ (w : Writing). w .answer ≡ Refused n p → w .file ≡ o) (fits c) _ _
+write-refused-keeps c o r =
+    cond-by (λ (w : Writing). w .answer ≡ Refused r → w .file ≡ o) (fits c) _ _
     (λ h.
-    cond-by (λ (w : Writing). w .answer ≡ Refused n p → w .file ≡ o) (leb (length (captureOf c)) (length o)) _ _
-    (λ k e. absurd (refused-unwritten n p (length (captureOf c)) (sym e)))
+    cond-by (λ (w : Writing). w .answer ≡ Refused r → w .file ≡ o) (leb (length (captureOf c)) (length o)) _ _
+    (λ k e. absurd (refused-unwritten r (length (captureOf c)) (sym e)))
     (λ k e. refl))
     (λ h e. refl)

@@ -18,36 +18,65 @@ mark = 0x50414357
 abbrev pub edition : ℕ
 edition = 1
 
--- the bytes of the header's thirteen numbers
-abbrev pub headerBytes : ℕ
-headerBytes = 52
+-- where the header's numbers stand, four bytes each: mark, edition, kernel number and settings, the counts of words of each part, and a
+-- sixth count
+abbrev pub markPlace : ℕ
+markPlace = 0
 
--- where the header's counts stand: of code, registers, device memory, local memory and state, and the sixth
+abbrev pub editionPlace : ℕ
+editionPlace = markPlace + 4
+
+abbrev pub kernelPlace : ℕ
+kernelPlace = editionPlace + 4
+
+abbrev pub widthPlace : ℕ
+widthPlace = kernelPlace + 4
+
+abbrev pub registersPlace : ℕ
+registersPlace = widthPlace + 4
+
+abbrev pub lanesPlace : ℕ
+lanesPlace = registersPlace + 4
+
+abbrev pub budgetPlace : ℕ
+budgetPlace = lanesPlace + 4
+
 abbrev pub codeCount : ℕ
-codeCount = 28
+codeCount = budgetPlace + 4
 
 abbrev pub registersCount : ℕ
-registersCount = 32
+registersCount = codeCount + 4
 
 abbrev pub deviceCount : ℕ
-deviceCount = 36
+deviceCount = registersCount + 4
 
 abbrev pub localCount : ℕ
-localCount = 40
+localCount = deviceCount + 4
 
 abbrev pub stateCount : ℕ
-stateCount = 44
+stateCount = localCount + 4
 
 abbrev pub sixthCount : ℕ
-sixthCount = 48
+sixthCount = stateCount + 4
+
+-- the bytes of the header
+abbrev pub headerBytes : ℕ
+headerBytes = sixthCount + 4
+
+-- a state's words before those of its blocks, and the words of each block
+abbrev pub hotWords : ℕ
+hotWords = 7
+
+abbrev pub blockWords : ℕ
+blockWords = 6
 
 -- which of a state's words is its depth, counted from 0
 abbrev pub depthWord : ℕ
 depthWord = 6
 
 -- the words of a state with this many open blocks
-abbrev pub stateWords : ℕ → ℕ
-stateWords depth = 7 + 6 * depth
+abbrev pub stateSize : ℕ → ℕ
+stateSize depth = hotWords + blockWords * depth
 
 -- ---- a capture and its file
 
@@ -76,18 +105,18 @@ headerOf c =
     ++ (length (c .code) ∷ length (c .registers) ∷ length (c .device) ∷ length (c .local) ∷ length (c .state) ∷ 0 ∷ []))
 
 -- the words of each part, in that order
-unfoldable pub wordsOf : Capture → List ℕ
-wordsOf c = c .code ++ (c .registers ++ (c .device ++ (c .local ++ c .state)))
+unfoldable pub partsOf : Capture → List ℕ
+partsOf c = c .code ++ (c .registers ++ (c .device ++ (c .local ++ c .state)))
 
 -- the file of a capture
 unfoldable pub captureOf : Capture → List ℕ
-captureOf c = bytesOfAll (headerOf c ++ wordsOf c)
+captureOf c = bytesOfAll (headerOf c ++ partsOf c)
 
 -- ---- which captures have a file
 
 -- no words for a launch, else as many as the depth among them says
 unfoldable pub stateFits : List ℕ → Bool
-stateFits s = eqb (length s) 0 || eqb (length s) (stateWords (getD s depthWord 0))
+stateFits s = eqb (length s) 0 || eqb (length s) (stateSize (getD s depthWord 0))
 
 -- each count is a number of four bytes, and the state's words are a state's
 unfoldable pub fits : Capture → Bool
@@ -101,5 +130,5 @@ fits c =
 
 -- a capture that a file is of: all its numbers have four bytes, and its state's words are a state's
 pub record Filed (c : Capture) : Type 0 where
-  pub small : Small (headerOf c ++ wordsOf c)
+  pub small : Small (headerOf c ++ partsOf c)
   pub shape : stateFits (c .state) ≡ true

@@ -1,10 +1,10 @@
 -- Reading a capture file into lent buffers: the tests in their order, and what the file holds.
-use Prim.Native.Nat.{ℕ, zero, suc, _+_, _*_, _-_, _/_, _≤_, min}
+use Prim.Native.Nat.{ℕ, _+_, _*_, _-_, _/_, _≤_, min}
 use mathlib.Core.Bool.{Bool, cond, _||_}
-use mathlib.Core.List.{List, [], _∷_}
+use mathlib.Core.List.{List}
 use lib.Dec.{ltb, leb, eqb}
 use lib.ListN.{length}
-use Rattle.numbers.specs.Numbers.{numberAt}
+use Rattle.numbers.specs.Numbers.{numberAt, numbersAt}
 use Rattle.numbers.specs.Placed.{placed}
 use Rattle.captures.specs.declared.answer.Head.{Head}
 use Rattle.captures.specs.declared.answer.Counts.{Counts}
@@ -14,17 +14,33 @@ use Rattle.captures.specs.declared.answer.ReadAnswer.the-variants.{Read,
 use Rattle.captures.specs.declared.testing.Verdict.{Verdict}
 use Rattle.captures.specs.declared.testing.Verdict.the-variants.{Fine, Broken}
 use Rattle.captures.specs.declared.testing.Places.{Places}
-use Rattle.captures.specs.Capture.{mark, edition, headerBytes, codeCount, registersCount, deviceCount, localCount, stateCount, sixthCount, depthWord, stateWords, Capture}
+use Rattle.captures.specs.Capture.{mark, edition, markPlace, editionPlace, kernelPlace, widthPlace, registersPlace, lanesPlace, budgetPlace}
+use Rattle.captures.specs.Capture.{codeCount, registersCount, deviceCount, localCount, stateCount, sixthCount, headerBytes}
+use Rattle.captures.specs.Capture.{hotWords, blockWords, depthWord, stateSize, Capture}
 
 -- ---- what a file holds
 
 -- kernel number and settings
 unfoldable pub headAt : List ℕ → Head
-headAt f = record { kernel = numberAt f 8; width = numberAt f 12; registers = numberAt f 16; lanes = numberAt f 20; budget = numberAt f 24 }
+headAt f =
+    record {
+      kernel = numberAt f kernelPlace;
+      width = numberAt f widthPlace;
+      registers = numberAt f registersPlace;
+      lanes = numberAt f lanesPlace;
+      budget = numberAt f budgetPlace;
+    }
 
 -- the counts of words
 unfoldable pub countsAt : List ℕ → Counts
-countsAt f = record { code = numberAt f codeCount; registers = numberAt f registersCount; device = numberAt f deviceCount; local = numberAt f localCount; state = numberAt f stateCount }
+countsAt f =
+    record {
+      code = numberAt f codeCount;
+      registers = numberAt f registersCount;
+      device = numberAt f deviceCount;
+      local = numberAt f localCount;
+      state = numberAt f stateCount;
+    }
 
 -- where the words of the parts behind the code stand, where the state's depth does, and where the file ends
 unfoldable pub placesOf : Counts → Places
@@ -34,11 +50,6 @@ placesOf n =
     let local = device + 4 * n .device in
     let state = local + 4 * n .local in
     record { registers = registers; device = device; local = local; state = state; depth = state + 4 * depthWord; end = state + 4 * n .state }
-
--- n numbers, the first at p
-unfoldable pub numbersAt : List ℕ → ℕ → ℕ → List ℕ
-numbersAt f p zero = []
-numbersAt f p (suc n) = numberAt f p ∷ numbersAt f (p + 4) n
 
 -- the capture that a file is of
 unfoldable pub captureIn : List ℕ → Capture
@@ -64,8 +75,8 @@ next (Broken r p) holds rule place = Broken r p
 -- mark and edition, as soon as they are there, then the thirteen numbers
 unfoldable pub testHead : List ℕ → Verdict
 testHead f =
-    let a = next Fine (ltb (length f) 4 || eqb (numberAt f 0) mark) Rule.Mark 0 in
-    let b = next a (ltb (length f) 8 || eqb (numberAt f 4) edition) Rule.Edition 4 in
+    let a = next Fine (ltb (length f) editionPlace || eqb (numberAt f markPlace) mark) Rule.Mark markPlace in
+    let b = next a (ltb (length f) kernelPlace || eqb (numberAt f editionPlace) edition) Rule.Edition editionPlace in
     next b (leb headerBytes (length f)) Rule.Header (4 * (length f / 4))
 
 -- there is room for each count
@@ -79,14 +90,14 @@ testRooms v n rooms =
 
 -- the depth that a state's count gives
 unfoldable pub depthOf : ℕ → ℕ
-depthOf n = (n - 7) / 6
+depthOf n = (n - hotWords) / blockWords
 
 -- the state's count is 0 or a state's, the sixth is 0, the file ends behind the words, and the state's depth is its count's
 unfoldable pub testState : Verdict → List ℕ → Verdict
 testState v f =
     let n = countsAt f .state in
     let at = placesOf (countsAt f) in
-    let a = next v (eqb n 0 || eqb n (stateWords (depthOf n))) Rule.StateCount stateCount in
+    let a = next v (eqb n 0 || eqb n (stateSize (depthOf n))) Rule.StateCount stateCount in
     let b = next a (eqb (numberAt f sixthCount) 0) Rule.SixthCount sixthCount in
     let c = next b (eqb (length f) (at .end)) Rule.Length (min (length f) (at .end)) in
     next c (eqb n 0 || eqb (numberAt f (at .depth)) (depthOf n)) Rule.Depth (at .depth)

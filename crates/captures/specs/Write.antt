@@ -5,16 +5,10 @@ use mathlib.Core.List.{List}
 use lib.Dec.{leb}
 use lib.ListN.{length}
 use Rattle.numbers.specs.Placed.{placed}
+use Rattle.refusals.specs.Table.{Rule, broken}
 use Rattle.captures.specs.declared.answer.WriteAnswer.{WriteAnswer}
 use Rattle.captures.specs.declared.answer.WriteAnswer.the-variants.{Wrote, Refused}
 use Rattle.captures.specs.Capture.{Capture, captureOf, fits}
-
--- the refusals: output shorter than the result, no file has these parts
-abbrev pub short : ℕ
-short = 13
-
-abbrev pub notOfLayout : ℕ
-notOfLayout = 14
 
 -- an answer, and what the lent buffer holds after
 pub record Writing : Type 0 where
@@ -28,5 +22,5 @@ wrote r file = record { answer = r; file = file }
 unfoldable pub writeOf : Capture → List ℕ → Writing
 writeOf c out =
     cond (fits c)
-    (cond (leb (length (captureOf c)) (length out)) (wrote (Wrote (length (captureOf c))) (placed out 0 (captureOf c))) (wrote (Refused short 0) out))
-    (wrote (Refused notOfLayout 0) out)
+    (cond (leb (length (captureOf c)) (length out)) (wrote (Wrote (length (captureOf c))) (placed out 0 (captureOf c))) (wrote (Refused (broken Rule.short 0)) out))
+    (wrote (Refused (broken Rule.not-of-layout 0)) out)

@@ -1,4 +1,5 @@
 // What a capture says apart from its words, and what reading and writing one answer.
+use refusals::Refusal;
 
 // The kernel number and the settings of the run, which nothing here checks.
 pub struct Head {
@@ -37,8 +38,8 @@ pub enum ReadAnswer {
     Unreadable { rule: Rule, place: usize },
 }
 
-// The length of the file that was written, or the refusal's number and place.
+// The length of the file that was written, or the refusal.
 pub enum WriteAnswer {
     Wrote(usize),
-    Refused(u32, usize),
+    Refused(Refusal),
 }

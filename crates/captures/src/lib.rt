@@ -16,11 +16,39 @@ const MARK: u32 = 0x5041_4357;
 
 const EDITION: u32 = 1;
 
-// The bytes of the header's thirteen numbers.
-const HEADER_BYTES: usize = 52;
+// Where the header's numbers stand, four bytes each: the mark, the edition, the kernel number and the settings, the counts of words of
+// each part, and a sixth count.
+const MARK_PLACE: usize = 0;
 
-// The words of a state with no open block, and of each block.
-const STATE_WORDS: usize = 7;
+const EDITION_PLACE: usize = MARK_PLACE + 4;
+
+const KERNEL_PLACE: usize = EDITION_PLACE + 4;
+
+const WIDTH_PLACE: usize = KERNEL_PLACE + 4;
+
+const REGISTERS_PLACE: usize = WIDTH_PLACE + 4;
+
+const LANES_PLACE: usize = REGISTERS_PLACE + 4;
+
+const BUDGET_PLACE: usize = LANES_PLACE + 4;
+
+pub const CODE_COUNT: usize = BUDGET_PLACE + 4;
+
+pub const REGISTERS_COUNT: usize = CODE_COUNT + 4;
+
+pub const DEVICE_COUNT: usize = REGISTERS_COUNT + 4;
+
+pub const LOCAL_COUNT: usize = DEVICE_COUNT + 4;
+
+pub const STATE_COUNT: usize = LOCAL_COUNT + 4;
+
+const SIXTH_COUNT: usize = STATE_COUNT + 4;
+
+// The bytes of the header.
+const HEADER_BYTES: usize = SIXTH_COUNT + 4;
+
+// A state's words before those of its blocks, and the words of each block.
+const HOT_WORDS: usize = 7;
 
 const BLOCK_WORDS: usize = 6;
 

@@ -7,25 +7,20 @@ use crate::testing::counts_of;
 use crate::testing::head_of;
 use crate::testing::places_of;
 use crate::testing::verdict_of;
-use numbers::get;
+use numbers::get_words;
 ghost use mathlib.Core.Path.{_≡_};
-ghost use Prim.Native.Nat.{_+_, _*_, _≤_};
+ghost use Prim.Native.Nat.{_≤_};
 ghost use lib.ListN.{length};
+ghost use Rattle.numbers.specs.Numbers.{numbersAt};
 ghost use Rattle.numbers.specs.Placed.{placed};
-ghost use Rattle.captures.specs.Read.{numbersAt, captureIn, verdictOf, lent, roomsOf, filled, reading, readOf};
+ghost use Rattle.captures.specs.Read.{captureIn, verdictOf, lent, roomsOf, filled, reading, readOf};
 
 // The n numbers of a file from `at` on, at the start of `out`.
 fn take_words(file: &[u8], at: usize, n: usize, out: &mut [u32])
-    requires { ⌜ (at + 4 * n ≤ length (now file)) × (n ≤ length (now out)) ⌝ }
+    requires { ⌜ n ≤ length (now out) ⌝ }
     ensures { λ _. ⌜ now (out .exit) ≡ placed (now (out .entry)) 0 (numbersAt (now (file .entry)) at n) ⌝ }
 {
-    let mut k: usize = 0;
-    let mut p = at;
-    while k < n {
-        out[k] = get(file, p);
-        p += 4;
-        k += 1;
-    }
+    get_words(file, at, &mut out[..n]);
 }
 
 // The words of a capture file, each part's at the start of its buffer.

@@ -1,30 +1,30 @@
 // Whether bytes are a capture file: what their header says, and the first broken rule.
 use crate::BLOCK_WORDS;
+use crate::BUDGET_PLACE;
+use crate::CODE_COUNT;
 use crate::DEPTH_WORD;
+use crate::DEVICE_COUNT;
 use crate::EDITION;
+use crate::EDITION_PLACE;
 use crate::HEADER_BYTES;
+use crate::HOT_WORDS;
+use crate::KERNEL_PLACE;
+use crate::LANES_PLACE;
+use crate::LOCAL_COUNT;
 use crate::MARK;
-use crate::STATE_WORDS;
+use crate::MARK_PLACE;
+use crate::REGISTERS_COUNT;
+use crate::REGISTERS_PLACE;
+use crate::SIXTH_COUNT;
+use crate::STATE_COUNT;
+use crate::WIDTH_PLACE;
 use crate::answer::Counts;
 use crate::answer::Head;
 use crate::answer::Rule;
 use numbers::get;
+use numbers::smaller;
 ghost use mathlib.Core.Path.{_≡_};
-ghost use Prim.Native.Nat.{min};
 ghost use Rattle.captures.specs.Read.{headAt, countsAt, placesOf, next as nextVerdict, depthOf, testHead, testRooms, testState, verdictOf};
-
-// Where the header's counts stand: of code, registers, device memory, local memory and state, and the sixth.
-const CODE_COUNT: usize = 28;
-
-const REGISTERS_COUNT: usize = 32;
-
-const DEVICE_COUNT: usize = 36;
-
-const LOCAL_COUNT: usize = 40;
-
-const STATE_COUNT: usize = 44;
-
-const SIXTH_COUNT: usize = 48;
 
 // The first broken rule and its place, or none.
 pub(crate) enum Verdict {
@@ -47,11 +47,11 @@ pub(crate) fn head_of(file: &[u8]) -> Head
     ensures { λ r. ⌜ r ≡ headAt (now (file .entry)) ⌝ }
 {
     Head {
-        kernel: get(file, 8),
-        width: get(file, 12),
-        registers: get(file, 16),
-        lanes: get(file, 20),
-        budget: get(file, 24),
+        kernel: get(file, KERNEL_PLACE),
+        width: get(file, WIDTH_PLACE),
+        registers: get(file, REGISTERS_PLACE),
+        lanes: get(file, LANES_PLACE),
+        budget: get(file, BUDGET_PLACE),
     }
 }
 
@@ -102,21 +102,14 @@ fn next(first: Verdict, holds: bool, rule: Rule, place: usize) -> Verdict
     }
 }
 
-// The smaller of two places.
-fn smaller(a: usize, b: usize) -> usize
-    ensures { λ r. ⌜ r ≡ min a b ⌝ }
-{
-    if a < b { a } else { b }
-}
-
 // The depth that a state's count gives.
 fn depth_of(count: usize) -> usize
     ensures { λ r. ⌜ r ≡ depthOf count ⌝ }
 {
-    if count < STATE_WORDS {
+    if count < HOT_WORDS {
         0
     } else {
-        (count - STATE_WORDS) / BLOCK_WORDS
+        (count - HOT_WORDS) / BLOCK_WORDS
     }
 }
 
@@ -127,11 +120,16 @@ fn test_head(file: &[u8]) -> Verdict
     let n = file.len();
     let mark = next(
         Verdict::Fine,
-        (n < 4) | (get(file, 0) == MARK),
+        (n < EDITION_PLACE) | (get(file, MARK_PLACE) == MARK),
         Rule::Mark,
-        0,
+        MARK_PLACE,
     );
-    let edition = next(mark, (n < 8) | (get(file, 4) == EDITION), Rule::Edition, 4);
+    let edition = next(
+        mark,
+        (n < KERNEL_PLACE) | (get(file, EDITION_PLACE) == EDITION),
+        Rule::Edition,
+        EDITION_PLACE,
+    );
     next(edition, HEADER_BYTES <= n, Rule::Header, 4 * (n / 4))
 }
 
@@ -165,7 +163,7 @@ fn test_state(first: Verdict, file: &[u8]) -> Verdict
     let at = places_of(file);
     let shape = next(
         first,
-        (count == 0) | (count == STATE_WORDS + BLOCK_WORDS * depth),
+        (count == 0) | (count == HOT_WORDS + BLOCK_WORDS * depth),
         Rule::StateCount,
         STATE_COUNT,
     );

@@ -3,50 +3,31 @@ use crate::BLOCK_WORDS;
 use crate::DEPTH_WORD;
 use crate::EDITION;
 use crate::HEADER_BYTES;
+use crate::HOT_WORDS;
 use crate::MARK;
-use crate::STATE_WORDS;
 use crate::answer::Head;
 use crate::answer::WriteAnswer;
-use numbers::put;
+use numbers::put_words;
+use refusals::NOT_OF_LAYOUT;
+use refusals::Refusal;
+use refusals::SHORT;
 ghost use mathlib.Core.Path.{_≡_};
 ghost use mathlib.Core.Bool.{true};
-ghost use Rattle.numbers.specs.Numbers.{bytesOfAll};
 ghost use Rattle.numbers.specs.Placed.{placed};
 ghost use Rattle.captures.specs.Capture.{captured, captureOf, stateFits, fits};
 ghost use Rattle.captures.specs.Write.{wrote, writeOf};
 
-// The refusals: output shorter than the result, no file has these parts.
-const SHORT: u32 = 13;
-
-const NOT_OF_LAYOUT: u32 = 14;
-
 // The bound of a number of four bytes.
 const BOUND: usize = 4294967296;
-
-// Puts words into `file` from `at` on, as far as they fit.
-fn give_words(words: &[u32], at: usize, file: &mut [u8])
-    ensures { λ _. ⌜ now (file .exit) ≡ placed (now (file .entry)) at (bytesOfAll (now (words .entry))) ⌝ }
-{
-    let mut k: usize = 0;
-    let mut p = at;
-    while k < words.len() {
-        if file.len() <= p {
-            return;
-        }
-        put(file, p, words[k]);
-        p += 4;
-        k += 1;
-    }
-}
 
 // Whether the words are none, or a state's.
 fn state_fits(state: &[u32]) -> bool
     ensures { λ r. ⌜ r ≡ stateFits (now (state .entry)) ⌝ }
 {
-    if state.len() < STATE_WORDS {
+    if state.len() < HOT_WORDS {
         return state.len() == 0;
     }
-    state.len() == STATE_WORDS + BLOCK_WORDS * (state[DEPTH_WORD] as usize)
+    state.len() == HOT_WORDS + BLOCK_WORDS * (state[DEPTH_WORD] as usize)
 }
 
 // Puts the file of these parts at the front of `file`, as far as it fits.
@@ -81,12 +62,12 @@ fn give_parts(
     let device_at = registers_at + 4 * registers.len();
     let local_at = device_at + 4 * device.len();
     let state_at = local_at + 4 * local.len();
-    give_words(&header, 0, file);
-    give_words(code, HEADER_BYTES, file);
-    give_words(registers, registers_at, file);
-    give_words(device, device_at, file);
-    give_words(local, local_at, file);
-    give_words(state, state_at, file);
+    put_words(file, 0, &header);
+    put_words(file, HEADER_BYTES, code);
+    put_words(file, registers_at, registers);
+    put_words(file, device_at, device);
+    put_words(file, local_at, local);
+    put_words(file, state_at, state);
 }
 
 // Writes the capture file of these parts at the front of `file`, and answers its length; the rest of `file` stays as lent. Tests
@@ -109,12 +90,18 @@ pub fn write(
         & (state.len() < BOUND)
         & state_fits(state);
     if !fits {
-        return WriteAnswer::Refused(NOT_OF_LAYOUT, 0);
+        return WriteAnswer::Refused(Refusal {
+            number: NOT_OF_LAYOUT,
+            place: 0,
+        });
     }
     let words = code.len() + registers.len() + device.len() + local.len() + state.len();
     let total = HEADER_BYTES + 4 * words;
     if file.len() < total {
-        return WriteAnswer::Refused(SHORT, 0);
+        return WriteAnswer::Refused(Refusal {
+            number: SHORT,
+            place: 0,
+        });
     }
     give_parts(head, code, registers, device, local, state, file);
     WriteAnswer::Wrote(total)

@@ -11,17 +11,14 @@ use crate::rooms::large_local;
 use crate::rooms::small_device;
 use crate::rooms::small_file;
 use crate::telling::say_unreadable;
+use captures::DEVICE_COUNT;
+use captures::LOCAL_COUNT;
 use captures::answer::ReadAnswer;
 use files::Input;
 use files::read_whole;
 use numbers::get;
 use numbers::put_bytes;
 use std::num::wrapping_add_usize;
-
-// Where a capture has the counts of its device and its local words.
-const DEVICE_COUNT: usize = 36;
-
-const LOCAL_COUNT: usize = 40;
 
 // Replays what was read of a capture, or says what it breaks that is none.
 fn replay_read(

@@ -12,11 +12,10 @@ use captures::answer::Head;
 use key::answer::KeyAnswer;
 use key::write_key;
 use libc::STDOUT_FILENO;
+use numbers::smaller;
 use packing::state_of;
 use replay::answers::Replayed;
 use replay::settings::Settings;
-ghost use mathlib.Core.Path.{_≡_};
-ghost use Prim.Native.Nat.{min};
 
 // More than the bytes of the longest report.
 const REPORT_ROOM: usize = 8192;
@@ -92,13 +91,6 @@ fn replay_words(
     tell(head.kernel, answer, code);
 }
 
-// The smaller of two counts.
-fn least(a: usize, b: usize) -> usize
-    ensures { λ r. ⌜ r ≡ min a b ⌝ }
-{
-    if a < b { a } else { b }
-}
-
 // Replays the words that a capture has of each buffer's.
 pub(crate) fn replay_counted(
     head: Head,
@@ -111,11 +103,11 @@ pub(crate) fn replay_counted(
     state: &[u32],
     file: &mut [u8],
 ) {
-    let c = least(counts.code, code.len());
-    let r = least(counts.registers, regs.len());
-    let d = least(counts.device, device.len());
-    let l = least(counts.local, local.len());
-    let s = least(counts.state, state.len());
+    let c = smaller(counts.code, code.len());
+    let r = smaller(counts.registers, regs.len());
+    let d = smaller(counts.device, device.len());
+    let l = smaller(counts.local, local.len());
+    let s = smaller(counts.state, state.len());
     replay_words(
         head,
         sliced,

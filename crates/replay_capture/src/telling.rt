@@ -8,6 +8,10 @@ use crate::text::put;
 use crate::text::put_decimal;
 use crate::text::put_number;
 use crate::text::write_front;
+use captures::CODE_COUNT;
+use captures::DEVICE_COUNT;
+use captures::LOCAL_COUNT;
+use captures::REGISTERS_COUNT;
 use captures::answer::Rule;
 use libc::STDERR_FILENO;
 
@@ -24,10 +28,10 @@ fn put_most(out: &mut [u8], at: usize, most: usize, counted: &[u8]) -> usize {
 // What there is room for, of the words whose count stands at this byte.
 fn put_room(out: &mut [u8], at: usize, place: usize) -> usize {
     match place {
-        28 => put_most(out, at, CODE_ROOM, b" code words"),
-        32 => put_most(out, at, REGISTER_ROOM, b" register words"),
-        36 => put_most(out, at, LARGE_DEVICE, b" device words"),
-        40 => put_most(out, at, LARGE_LOCAL, b" local words"),
+        CODE_COUNT => put_most(out, at, CODE_ROOM, b" code words"),
+        REGISTERS_COUNT => put_most(out, at, REGISTER_ROOM, b" register words"),
+        DEVICE_COUNT => put_most(out, at, LARGE_DEVICE, b" device words"),
+        LOCAL_COUNT => put_most(out, at, LARGE_LOCAL, b" local words"),
         _ => put_most(out, at, STATE_ROOM, b" state words"),
     }
 }

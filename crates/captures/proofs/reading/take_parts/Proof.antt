@@ -1,5 +1,6 @@
--- A file that breaks no rule has its words within, and there is room for them.
-use Rattle.captures.proofs.Accepted.{room-code, room-registers, room-device, room-local, room-state, taken}
+-- There is room for the words of a file that breaks no rule.
+use Rattle.captures.specs.Read.{Lent, lent, roomsOf}
+use Rattle.captures.proofs.Accepted.{room-for, taken}
 use borrow.Author.Needs.{needs}
 use Rattle.captures.proofs.reading.take_parts.Statement.{statement}
 use Rattle.captures.proofs.reading.take_parts.Tie as tie
@@ -21,28 +22,29 @@ from-state z = from-local (z .before .before .before .before)
 abbrev start : tie.After-places-of → tie.Start
 start z = z .before .before .before .before .before .before .before .before
 
+-- the buffers that are lent
+abbrev buffers : tie.Start → Lent
+buffers z = let a = z .args in lent (a .code .now) (a .registers .now) (a .device .now) (a .local .now) (a .state .now)
+
 take-words-requires : tie.Need-take-words-requires
-take-words-requires c κs = let at = c .before in room-code _ _ (start at .pre) _ (at .before .counts-of .ensures)
+unfolding roomsOf
+take-words-requires c κs = let at = c .before in room-for _ (buffers (start at)) (start at .pre) _ (at .before .counts-of .ensures) .code
 
 take-words-requires-2 : tie.Need-take-words-requires-2
-take-words-requires-2 c κs =
-    let at = from-registers c in
-    room-registers _ _ (start at .pre) _ (at .before .counts-of .ensures) _ (at .places-of .ensures)
+unfolding roomsOf
+take-words-requires-2 c κs = let at = from-registers c in room-for _ (buffers (start at)) (start at .pre) _ (at .before .counts-of .ensures) .registers
 
 take-words-requires-3 : tie.Need-take-words-requires-3
-take-words-requires-3 c κs =
-    let at = from-device c in
-    room-device _ _ (start at .pre) _ (at .before .counts-of .ensures) _ (at .places-of .ensures)
+unfolding roomsOf
+take-words-requires-3 c κs = let at = from-device c in room-for _ (buffers (start at)) (start at .pre) _ (at .before .counts-of .ensures) .device
 
 take-words-requires-4 : tie.Need-take-words-requires-4
-take-words-requires-4 c κs =
-    let at = from-local c in
-    room-local _ _ (start at .pre) _ (at .before .counts-of .ensures) _ (at .places-of .ensures)
+unfolding roomsOf
+take-words-requires-4 c κs = let at = from-local c in room-for _ (buffers (start at)) (start at .pre) _ (at .before .counts-of .ensures) .local
 
 take-words-requires-5 : tie.Need-take-words-requires-5
-take-words-requires-5 c κs =
-    let at = from-state c in
-    room-state _ _ (start at .pre) _ (at .before .counts-of .ensures) _ (at .places-of .ensures)
+unfolding roomsOf
+take-words-requires-5 c κs = let at = from-state c in room-for _ (buffers (start at)) (start at .pre) _ (at .before .counts-of .ensures) .state
 
 returns : tie.Need-returns
 returns c =

@@ -2,13 +2,13 @@
 use Prim.Native.Nat.{_+_, _<_}
 use native.Mathlib.Omega.{arith}
 use Rattle.numbers.specs.Numbers.{bound}
-use Rattle.captures.specs.Capture.{stateWords}
+use Rattle.captures.specs.Capture.{stateSize}
 use Rattle.captures.proofs.Tested.{depth-small, state-tested}
 use borrow.Author.Needs.{needs}
 use Rattle.captures.proofs.testing.test_state.Statement.{statement}
 use Rattle.captures.proofs.testing.test_state.Tie as tie
 
-small : (z : tie.After-places-of) → stateWords (z .before .depth-of .result) < bound + 7
+small : (z : tie.After-places-of) → stateSize (z .before .depth-of .result) < bound + 7
 small z = depth-small _ _ (z .before .depth-of .ensures) (omega (arith, z .before .before .get .ok))
 
 mul-next : tie.Need-mul-next

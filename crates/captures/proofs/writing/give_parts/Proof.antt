@@ -49,12 +49,12 @@ returns c =
     let code = registers .before .before .before .before in
     let header = code .before .before .before .before in
     laid _ _ _ _ _ _ _ _ _ _ _ _ refl refl refl refl
-    (header .give-words .ensures)
-    (code .give-words2 .ensures)
-    (registers .give-words3 .ensures)
-    (device .give-words4 .ensures)
-    (local .give-words5 .ensures)
-    (state .give-words6 .ensures)
+    (header .put-words .ensures .0)
+    (code .put-words2 .ensures .0)
+    (registers .put-words3 .ensures .0)
+    (device .put-words4 .ensures .0)
+    (local .put-words5 .ensures .0)
+    (state .put-words6 .ensures .0)
 
 pub give-parts-spec : {M : Type 1} → statement M
 give-parts-spec = tie.close (tie.spec
