@@ -1,5 +1,5 @@
 -- What the length's test reads and answers, and what its answer says.
-use mathlib.Core.Path.{_≡_, refl, sym, ap, _∙_}
+use mathlib.Core.Path.{_≡_, refl, sym, _∙_}
 use Prim.Native.Nat.{ℕ, _+_, _*_, _-_, _≤_}
 use mathlib.Core.List.{List, []}
 use mathlib.Core.Bool.{Bool, true, false, _&&_, and-comm}
@@ -18,7 +18,7 @@ use Rattle.body.specs.Body.{Parts, setBytes, partsAt, sizeAt}
 use Rattle.body.specs.Layout.{lastPlace, mostDepth, kindLists, faultsFit, blockFits, ofLayout, starts, startsBody, bodyAnswer, notOfLayout}
 use Rattle.body.specs.Places.{countAt, depthAt, blockAt}
 use Rattle.body.proofs.Places.{count-faults, depth-blocks, blocks-place, size-place}
-use Rattle.body.proofs.Starts.{Starts, starts-of, of-starts, starts-long}
+use Rattle.body.proofs.Starts.{Starts, starts-of, starts-long}
 
 -- ---- what the code reads
 

@@ -1,6 +1,6 @@
 -- The formats of a body are lawful, and a fault kind and a block always have one length.
 use mathlib.Core.Path.{refl, subst}
-use Prim.Native.Nat.{ℕ, _+_}
+use Prim.Native.Nat.{ℕ}
 use native.Mathlib.Omega.{arith}
 use Rattle.formats.proofs.Lawful.{Lawful}
 use Rattle.formats.proofs.Digits.{number-lawful}

@@ -1,12 +1,12 @@
 -- Every field of a body stands where the page's order puts it, and the front says how long the body is.
-use mathlib.Core.Path.{_≡_, refl, sym, ap, _∙_}
+use mathlib.Core.Path.{_≡_, ap, _∙_}
 use Prim.Native.Nat.{ℕ, _+_, _*_}
-use mathlib.Core.List.{List, [], _++_, flatMap}
+use mathlib.Core.List.{List, flatMap}
 use native.Mathlib.Omega.{arith}
 use lib.ListN.{length, drop, length-append}
 use lib.Seq.{drop-drop}
 use Rattle.numbers.specs.Numbers.{numberAt}
-use Rattle.formats.specs.Format.{Format, bytesIn, number, both, counted, seenAs, valueIn, readTimes, sizeTimes}
+use Rattle.formats.specs.Format.{Format, bytesIn, number, both, counted, seenAs, valueIn, sizeTimes}
 use Rattle.formats.specs.Places.{each}
 use Rattle.formats.proofs.Digits.{length-bytesIn}
 use Rattle.formats.proofs.Each.{length-each}

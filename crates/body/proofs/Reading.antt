@@ -9,7 +9,7 @@ use lib.ListN.{length, getD, List·getD-eq-default}
 use lib.Seq.{drop-drop}
 use Rattle.numbers.specs.Numbers.{numberAt}
 use Rattle.formats.specs.Format.{number, both, seenAs}
-use Rattle.formats.specs.Places.{readAt, each}
+use Rattle.formats.specs.Places.{readAt}
 use Rattle.formats.proofs.Each.{getD-each}
 use Rattle.formats.proofs.Words.{four-value}
 use Rattle.lanes.specs.declared.said.Block.{Block}

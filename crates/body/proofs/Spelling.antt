@@ -6,7 +6,7 @@ use mathlib.Core.List.{List, [], _∷_, map}
 use mathlib.Core.Bool.{Bool, true, false, not, _&&_, _||_, and-true}
 use native.Mathlib.Omega.{arith}
 use lib.Bits.{bitAnd, bitOr}
-use lib.Dec.{ltb, leb, eqb}
+use lib.Dec.{ltb, eqb}
 use lib.ListN.{length, getD, drop, length-map, length-drop, drop-of-length-le}
 use lib.Seq.{drop-cons}
 use borrow.Author.Tests.{ltb-true, eqb-true, eq-eqb}
@@ -15,7 +15,7 @@ use Rattle.ground.proofs.Bools.{never, and-left, and-right, and-both}
 use Rattle.ground.proofs.Tests.{false-of, same-test, same-refl, same-true, one-all}
 use Rattle.numbers.specs.Numbers.{bound}
 use Rattle.lanes.specs.Sets.{bit}
-use Rattle.lanes.proofs.Bits.{set-ext, bit-le, bit-and, bit-or, bit-zero}
+use Rattle.lanes.proofs.Bits.{set-ext, bit-and, bit-or, bit-zero}
 use Rattle.lanes.specs.declared.said.Fault.{Fault}
 use Rattle.body.specs.Layout.{Kinds, mostKinds, kindLists, apart, faultsFit}
 use Rattle.body.specs.Spelling.{digit, spelled, spells, mayPrecede, together}

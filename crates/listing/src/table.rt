@@ -7,7 +7,8 @@ use body::fields::depth;
 use body::fields::fault;
 use body::fields::kernel;
 use body::fields::place;
-use numbers::get;
+use dayfile::rows::record_length;
+use dayfile::rows::record_place;
 ghost use mathlib.Core.Path.{_≡_};
 ghost use mathlib.Core.Bool.{true};
 ghost use mathlib.Core.List.{map};
@@ -54,8 +55,9 @@ fn put_lines(out: &mut [u8], at: usize, file: &[u8], firsts: &[u32]) -> usize
     let mut q = at;
     let mut k: usize = 0;
     while k < firsts.len() {
-        let place = get(file, 4 + 8 * k) as usize;
-        let end = place + get(file, 8 + 8 * k) as usize;
+        let row = k as u32;
+        let place = record_place(file, row);
+        let end = place + record_length(file, row);
         q = put_line(out, q, k + 1, firsts[k], &file[place..end]);
         k += 1;
     }

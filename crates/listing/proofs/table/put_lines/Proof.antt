@@ -21,30 +21,24 @@ few : (z : tie.Start Inv-loop μ-loop) → length (z .args .firsts .now) ≤ mos
 few z = listed-few _ _ (z .pre .0) (z .pre .1 .0)
 
 -- the place and the length that the code read are those of the record
-cut : (z : tie.After-get2 Inv-loop μ-loop)
+cut : (z : tie.After-record-length Inv-loop μ-loop)
     → Cut
     (z .before .before .before .before .before .before .before .args .file .now)
     (z .before .before .before .loop .k)
-    (z .before .get .result)
-    (z .get2 .result)
+    (z .before .record-place .result)
+    (z .record-length .result)
 cut z =
     let start = z .before .before .before .before .before .before .before in
-    listed-cut _ _ (start .pre .0) (start .pre .1 .0) (z .before .before .loop-test .taken) (z .before .get .ensures) (z .get2 .ensures)
+    listed-cut _ _ (start .pre .0) (start .pre .1 .0) (z .before .before .loop-test .taken) (z .before .record-place .ensures) (z .record-length .ensures)
 
 loop-holds : tie.Need-loop-holds Inv-loop μ-loop
 loop-holds c = lining-start _ _ _ _
 
-mul-get : tie.Need-mul-get Inv-loop μ-loop
-mul-get c = omega (arith, few (c .before .before .before .before .before))
+cast-row : tie.Need-cast-row Inv-loop μ-loop
+cast-row c = omega (arith, few (c .before .before .before .before .before))
 
-add-get : tie.Need-add-get Inv-loop μ-loop
-add-get c = omega (arith, few (c .before .before .before .before .before))
-
-mul-get-2 : tie.Need-mul-get-2 Inv-loop μ-loop
-mul-get-2 c = omega (arith, few (c .before .before .before .before .before .before))
-
-add-get-2 : tie.Need-add-get-2 Inv-loop μ-loop
-add-get-2 c = omega (arith, few (c .before .before .before .before .before .before))
+add-end : tie.Need-add-end Inv-loop μ-loop
+add-end c = omega (arith, cut c .inside)
 
 part-put-line-end : tie.Need-part-put-line-end Inv-loop μ-loop
 part-put-line-end c = cut (c .before .before) .inside
@@ -67,6 +61,6 @@ returns c = lining-end (c .before .loop .inv) (c .loop-test .left)
 
 pub put-lines-spec : {M : Type 1} → statement M
 put-lines-spec = tie.close (tie.spec
-    Inv-loop μ-loop loop-holds mul-get add-get (λ c κs. search needs) (λ c. search needs) mul-get-2 add-get-2 (λ c κs. search needs)
-    (λ c. search needs) (λ c. search needs) (λ c. search needs) (λ c. search needs) (λ c. search needs) (λ c. omega arith)
-    (λ c. omega arith) part-put-line-end put-line-requires (λ c. search needs) (λ c. search needs) loop-again same-length returns)
+    Inv-loop μ-loop loop-holds cast-row (λ c κs. search needs) (λ c κs. search needs) add-end (λ c. search needs) (λ c. search needs)
+    (λ c. search needs) (λ c. omega arith) (λ c. omega arith) part-put-line-end put-line-requires (λ c. search needs)
+    (λ c. search needs) loop-again same-length returns)
