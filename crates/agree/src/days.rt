@@ -22,7 +22,7 @@ fn make_in(bodies: &[u8], room: &mut [u8]) -> MakeAnswer {
 fn give_made(out: &mut [u8], made: MakeAnswer) -> usize {
     match made {
         MakeAnswer::Made(n) => give_length(out, 0, 0, 0, n),
-        MakeAnswer::Refused(number, place) => give_length(out, 0, number, place, 0),
+        MakeAnswer::Refused(refusal) => give_length(out, 0, refusal.number, refusal.place, 0),
     }
 }
 
@@ -46,7 +46,7 @@ fn give_count(out: &mut [u8], file: &[u8]) -> usize {
     let mut firsts = [0u32; dayfile::MOST_RECORDS];
     match dayfile::firsts(file, &mut firsts) {
         CountAnswer::Count(n) => give_length(out, 0, 0, 0, n),
-        CountAnswer::Refused(number, place) => give_length(out, 0, number, place, 0),
+        CountAnswer::Refused(refusal) => give_length(out, 0, refusal.number, refusal.place, 0),
     }
 }
 
@@ -58,7 +58,9 @@ fn give_record(out: &mut [u8], at: usize, file: &[u8], i: usize) -> usize {
             length,
             first,
         } => give_words(out, at, &[0, 0, low(place), low(length), low(first)]),
-        ReadAnswer::Refused(number, place) => give_words(out, at, &[number, low(place), 0, 0, 0]),
+        ReadAnswer::Refused(refusal) => {
+            give_words(out, at, &[refusal.number, low(refusal.place), 0, 0, 0])
+        },
     }
 }
 

@@ -46,7 +46,7 @@ fn write_in(kernel: u32, answer: Replayed, room: &mut [u8]) -> KeyAnswer {
 fn give_wrote(out: &mut [u8], at: usize, wrote: KeyAnswer) -> usize {
     match wrote {
         KeyAnswer::Wrote(n) => give_length(out, at, 0, 0, n),
-        KeyAnswer::Refused(number, place) => give_length(out, at, number, place, 0),
+        KeyAnswer::Refused(refusal) => give_length(out, at, refusal.number, refusal.place, 0),
     }
 }
 

@@ -9,13 +9,15 @@ use lib.Dec.{leb}
 use lib.ListN.{length, take, drop, drop-of-length-le}
 use borrow.Author.Tests.{leb-true}
 use borrow.Rule.Slice.PartAt.{part-to-end}
+use Rattle.refusals.specs.Table.{Rule, broken}
+use Rattle.refusals.specs.declared.Refusal.{Refusal}
 use Rattle.ground.specs.Tests.{allOf}
 use Rattle.ground.proofs.Bools.{and-right}
 use Rattle.ground.proofs.Tests.{false-of, true-or-false}
 use Rattle.formats.specs.Places.{each}
 use Rattle.body.specs.declared.BodyAnswer.the-variants.{Length, Refused}
 use Rattle.body.specs.Body.{Parts, setBytes, partsAt, sizeAt}
-use Rattle.body.specs.Layout.{lastPlace, mostDepth, kindLists, faultsFit, blockFits, ofLayout, starts, startsBody, bodyAnswer, notOfLayout}
+use Rattle.body.specs.Layout.{lastPlace, mostDepth, kindLists, faultsFit, blockFits, ofLayout, starts, startsBody, bodyAnswer}
 use Rattle.body.specs.Places.{countAt, depthAt, blockAt}
 use Rattle.body.proofs.Places.{count-faults, depth-blocks, blocks-place, size-place}
 use Rattle.body.proofs.Starts.{Starts, starts-of, starts-long}
@@ -29,7 +31,7 @@ regroup true false D S B = refl
 regroup false true D S B = refl
 regroup false false D S B = refl
 
-pub answer-refused : (s : List ℕ) (at : ℕ) → startsBody (drop at s) ≡ false → Refused notOfLayout at ≡ bodyAnswer s at
+pub answer-refused : (s : List ℕ) (at : ℕ) → startsBody (drop at s) ≡ false → Refused (broken Rule.not-of-layout at) ≡ bodyAnswer s at
 unfolding bodyAnswer
 answer-refused s at e = simp e
 
@@ -41,7 +43,7 @@ none-starts : startsBody [] ≡ false
 none-starts =
     false-of (startsBody []) (λ e. let s = starts-of kindLists setBytes [] e in let l = starts-long [] s in let r = s .room in omega arith)
 
-pub answer-out : (s : List ℕ) (at : ℕ) → length s ≤ at → Refused notOfLayout at ≡ bodyAnswer s at
+pub answer-out : (s : List ℕ) (at : ℕ) → length s ≤ at → Refused (broken Rule.not-of-layout at) ≡ bodyAnswer s at
 answer-out s at h = answer-refused s at (rw (drop-of-length-le s {i = at} h) none-starts)
 
 -- the part of s from `at` on
@@ -87,11 +89,11 @@ module _ {s : List ℕ} {at c d p : ℕ} {F : Bool} (r : BodyRead s at c d p F) 
   unfolding starts ofLayout
   starts-read = regroup _ F _ _ _ ∙ rw (r .faults, r .place, size-is, blocks-are, r .depth)
 
-  pub answer-unfit : fits ≡ false → Refused notOfLayout at ≡ bodyAnswer s at
+  pub answer-unfit : fits ≡ false → Refused (broken Rule.not-of-layout at) ≡ bodyAnswer s at
   answer-unfit e = answer-refused s at (rw (← body-is) (sym starts-read ∙ rw e))
 
   module _ (B : Bool) (eB : B ≡ allOf blockFits (each (blockAt setBytes body) 24 (24 + 8 * c) d)) where
-    pub answer-blocks : fits ≡ true → B ≡ false → Refused notOfLayout at ≡ bodyAnswer s at
+    pub answer-blocks : fits ≡ true → B ≡ false → Refused (broken Rule.not-of-layout at) ≡ bodyAnswer s at
     answer-blocks e f = answer-refused s at (rw (← body-is) (sym starts-read ∙ rw (e, ← eB) f))
 
     pub answer-body : fits ≡ true → B ≡ true → Length (24 + 8 * c + 24 * d) ≡ bodyAnswer s at
@@ -99,8 +101,8 @@ module _ {s : List ℕ} {at c d p : ℕ} {F : Bool} (r : BodyRead s at c d p F) 
 
 -- ---- what an answer says
 
-length-unrefused : (k n p : ℕ) → Length k ≡ Refused n p → ⊥
-length-unrefused k n p e = let z : _≡_ {A = ℕ} 0 1 = cc in omega arith
+length-unrefused : (k : ℕ) (x : Refusal) → Length k ≡ Refused x → ⊥
+length-unrefused k x e = let z : _≡_ {A = ℕ} 0 1 = cc in omega arith
 
 module _ (s : List ℕ) (at : ℕ) where
   pub length-says : (k : ℕ) → Length k ≡ bodyAnswer s at → (Starts kindLists setBytes (drop at s)) × (k ≡ sizeAt (drop at s))
@@ -109,12 +111,12 @@ module _ (s : List ℕ) (at : ℕ) where
       (λ (h : startsBody (drop at s) ≡ true).
       let z : Length k ≡ Length (sizeAt (drop at s)) = e ∙ sym (answer-length s at _ refl h) in
       (starts-of kindLists setBytes (drop at s) h, cc))
-      (λ (h : startsBody (drop at s) ≡ false). absurd (length-unrefused _ _ _ (e ∙ sym (answer-refused s at h))))
+      (λ (h : startsBody (drop at s) ≡ false). absurd (length-unrefused _ _ (e ∙ sym (answer-refused s at h))))
       (true-or-false (startsBody (drop at s)))
 
-  pub refused-says : (n p : ℕ) → Refused n p ≡ bodyAnswer s at → startsBody (drop at s) ≡ false
-  refused-says n p e =
+  pub refused-says : (x : Refusal) → Refused x ≡ bodyAnswer s at → startsBody (drop at s) ≡ false
+  refused-says x e =
       ⊎-elim
-      (λ (h : startsBody (drop at s) ≡ true). absurd (length-unrefused _ _ _ (answer-length s at _ refl h ∙ sym e)))
+      (λ (h : startsBody (drop at s) ≡ true). absurd (length-unrefused _ _ (answer-length s at _ refl h ∙ sym e)))
       (λ (h : startsBody (drop at s) ≡ false). h)
       (true-or-false (startsBody (drop at s)))

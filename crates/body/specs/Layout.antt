@@ -5,6 +5,7 @@ use mathlib.Core.Bool.{Bool, true, cond, not, _&&_, _||_}
 use lib.Dec.{leb, eqb}
 use lib.Bits.{bitAnd}
 use lib.ListN.{length, drop}
+use Rattle.refusals.specs.Table.{Rule, broken}
 use Rattle.ground.specs.Tests.{oneOf, allOf}
 use Rattle.lanes.specs.declared.said.Block.{Block}
 use Rattle.lanes.specs.declared.said.Fault.{Fault}
@@ -37,13 +38,6 @@ kindLists = (1 ∷ []) ∷ (2 ∷ []) ∷ (3 ∷ []) ∷ (4 ∷ []) ∷ (5 ∷ [
 -- the most of them
 abbrev pub mostKinds : ℕ
 mostKinds = 2
-
--- the refusals of an output that is shorter than the result, and of a body that isn't of the layout
-abbrev pub short : ℕ
-short = 13
-
-abbrev pub notOfLayout : ℕ
-notOfLayout = 14
 
 -- ---- lengths
 
@@ -107,4 +101,4 @@ isBody b = isWhole kindLists setBytes b
 
 -- the length of the body that starts at `at`, or refusal 14 at its first byte
 unfoldable pub bodyAnswer : List ℕ → ℕ → BodyAnswer
-bodyAnswer s at = cond (startsBody (drop at s)) (Length (sizeAt (drop at s))) (Refused notOfLayout at)
+bodyAnswer s at = cond (startsBody (drop at s)) (Length (sizeAt (drop at s))) (Refused (broken Rule.not-of-layout at))

@@ -11,6 +11,8 @@ use fields::place;
 use lanes::Lanes;
 use lanes::said::Fault;
 use numbers::get;
+use refusals::NOT_OF_LAYOUT;
+use refusals::Refusal;
 ghost use mathlib.Core.Path.{_≡_};
 ghost use Prim.Native.Nat.{_+_, _*_, _≤_};
 ghost use lib.ListN.{length};
@@ -34,15 +36,10 @@ const LOOP_PART: u32 = 3;
 // The length of the longest body.
 pub const LONGEST: usize = HEAD_BYTES + FAULT_BYTES * MOST_KINDS + BLOCK_BYTES * MOST_DEPTH;
 
-// The refusals of an output that is shorter than the result, and of what isn't of the layout.
-pub const SHORT: u32 = 13;
-
-pub const NOT_OF_LAYOUT: u32 = 14;
-
-// The length of a body, or the refusal's number and place.
+// The length of a body, or the refusal.
 pub enum BodyAnswer {
     Length(usize),
-    Refused(u32, usize),
+    Refused(Refusal),
 }
 
 // Whether a fault may have these kinds: a hexadecimal digit each, the last kind first.
@@ -124,7 +121,10 @@ pub fn body_length(bytes: &[u8], at: usize) -> BodyAnswer
     ensures { λ r. ⌜ r ≡ bodyAnswer (now (bytes .entry)) at ⌝ }
 {
     if bytes.len() < at {
-        return BodyAnswer::Refused(NOT_OF_LAYOUT, at);
+        return BodyAnswer::Refused(Refusal {
+            number: NOT_OF_LAYOUT,
+            place: at,
+        });
     }
     let body = &bytes[at..];
     let head = HEAD_BYTES + FAULT_BYTES * (count(body) as usize);
@@ -135,10 +135,16 @@ pub fn body_length(bytes: &[u8], at: usize) -> BodyAnswer
         & (blocks <= MOST_DEPTH)
         & (size <= body.len());
     if !fits {
-        return BodyAnswer::Refused(NOT_OF_LAYOUT, at);
+        return BodyAnswer::Refused(Refusal {
+            number: NOT_OF_LAYOUT,
+            place: at,
+        });
     }
     if !blocks_fit(body, head, blocks) {
-        return BodyAnswer::Refused(NOT_OF_LAYOUT, at);
+        return BodyAnswer::Refused(Refusal {
+            number: NOT_OF_LAYOUT,
+            place: at,
+        });
     }
     BodyAnswer::Length(size)
 }

@@ -40,7 +40,7 @@ fn answer_body(bytes: &[u8], at: usize) {
             put_word(b"length");
             put_number(n);
         }
-        BodyAnswer::Refused(number, place) => put_refusal(number, place),
+        BodyAnswer::Refused(refusal) => put_refusal(refusal.number, refusal.place),
     }
     end_line();
 }
@@ -57,7 +57,7 @@ fn answer_read(bytes: &[u8], i: usize) {
             put_number(length);
             put_number(first);
         }
-        ReadAnswer::Refused(number, place) => put_refusal(number, place),
+        ReadAnswer::Refused(refusal) => put_refusal(refusal.number, refusal.place),
     }
     end_line();
 }
@@ -85,7 +85,7 @@ fn answer_make(bytes: &[u8], out: &mut [u8]) {
             put_word(b"made");
             put_number(n);
         }
-        MakeAnswer::Refused(number, place) => put_refusal(number, place),
+        MakeAnswer::Refused(refusal) => put_refusal(refusal.number, refusal.place),
     }
     put_number(sum_of(out));
     end_line();

@@ -10,17 +10,19 @@ use borrow.Author.Tests.{leb-true, leb-false}
 use lib.Dec.{leb}
 use lib.ListN.{length, take, drop, length-append}
 use lib.Seq.{take-append-seam, drop-at}
+use Rattle.refusals.specs.declared.Refusal.{Refusal}
+use Rattle.refusals.specs.Table.{Rule, broken}
 use Rattle.ground.specs.Tests.{allOf}
 use Rattle.ground.proofs.Tests.{true-or-false}
 use Rattle.numbers.specs.Placed.{placed}
 use Rattle.numbers.proofs.Placing.{placed-front}
 use Rattle.body.specs.Body.{setBytes}
-use Rattle.body.specs.Layout.{kindLists, isBody, short}
+use Rattle.body.specs.Layout.{kindLists, isBody}
 use Rattle.body.proofs.Starts.{of-starts, starts-long, starts-append, body-starts}
 use Rattle.dayfile.specs.declared.making.Survey.{Survey}
 use Rattle.dayfile.specs.declared.making.Survey.the-variants.{Many}
 use Rattle.dayfile.specs.declared.answer.MakeAnswer.the-variants.{Made, Refused}
-use Rattle.dayfile.specs.Day.{mostRecords, tooMany, fileOf, Listed}
+use Rattle.dayfile.specs.Day.{mostRecords, fileOf, Listed}
 use Rattle.dayfile.specs.Make.{survey, Making, made, filed, surveyed, makeOf, Makes, fileIn}
 use Rattle.dayfile.proofs.Lists.{all-first, all-rest, body-size, one-list}
 use Rattle.dayfile.proofs.Filing.{survey-many, survey-on}
@@ -31,9 +33,9 @@ use Rattle.dayfile.proofs.Theorems.{list-made}
 one-making : (m n : ℕ) (x y : List ℕ) → made (Made m) x ≡ made (Made n) y → (m ≡ n) × (x ≡ y)
 one-making m n x y e = let a : Made m ≡ Made n = ap (λ (k : Making). k .answer) e in (cc, ap (λ (k : Making). k .out) e)
 
-made-refused : (n k p : ℕ) (x y : List ℕ) → made (Made n) x ≡ made (Refused k p) y → ⊥
-made-refused n k p x y e =
-    let a : Made n ≡ Refused k p = ap (λ (m : Making). m .answer) e in let z : _≡_ {A = ℕ} 0 1 = cc in omega arith
+made-refused : (n : ℕ) (z : Refusal) (x y : List ℕ) → made (Made n) x ≡ made (Refused z) y → ⊥
+made-refused n z x y e =
+    let a : Made n ≡ Refused z = ap (λ (m : Making). m .answer) e in let o : _≡_ {A = ℕ} 0 1 = cc in omega arith
 
 -- ---- more bodies than there is room for
 
@@ -61,7 +63,7 @@ module _ (bs : List (List ℕ)) (each : allOf isBody bs ≡ true) {out : List �
   over-refused : mostRecords < length bs → ⊥
   unfolding makeOf surveyed
   over-refused h =
-      made-refused (w .size) tooMany 0 (w .now) out
+      made-refused (w .size) (broken Rule.too-many 0) (w .now) out
       (w .did ∙ ap (λ (v : Survey). surveyed v (flatten bs) out) (survey-over bs mostRecords 0 0 each h))
 
   -- `make` takes at most 1,024 bodies
@@ -83,7 +85,7 @@ filed-is f out now n e =
     let w = one-making n (length f) now (placed out 0 f) (e ∙ simp l) in
     let s : now ≡ f ++ drop (length f) out = w .1 ∙ placed-front out f (leb-true _ _ l) in
     rw (w .0, s) (take-append-seam f (drop (length f) out)))
-    (λ (l : leb (length f) (length out) ≡ false). absurd (made-refused n short 0 now out (e ∙ simp l)))
+    (λ (l : leb (length f) (length out) ≡ false). absurd (made-refused n (broken Rule.short 0) now out (e ∙ simp l)))
     (true-or-false (leb (length f) (length out)))
 
 -- THEOREM: the file that `make` made of bodies is the one that their list gives

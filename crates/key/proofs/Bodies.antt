@@ -7,6 +7,7 @@ use native.Mathlib.Omega.{arith}
 use borrow.Author.Tests.{le-leb, lt-leb}
 use lib.ListN.{length, take, drop, length-append}
 use lib.Seq.{take-append-seam, length-take-le}
+use Rattle.refusals.specs.Table.{Rule, broken}
 use Rattle.refusals.specs.declared.Refusal.{Refusal}
 use Rattle.ground.proofs.Tests.{false-of}
 use Rattle.numbers.specs.Numbers.{bytesOf, bytesOfAll, bound, Small}
@@ -16,7 +17,7 @@ use Rattle.numbers.proofs.Placing.{placed-front}
 use Rattle.numbers.proofs.Behind.{behind, behind-one}
 use Rattle.body.specs.declared.BodyAnswer.the-variants.{Length, Refused as NoBody}
 use Rattle.body.specs.Body.{Parts, bodyFormat, setBytes, bytesOfBody, sizeAt}
-use Rattle.body.specs.Layout.{kindLists, fitsLayout, mostDepth, starts, startsBody, bodyAnswer, short, notOfLayout}
+use Rattle.body.specs.Layout.{kindLists, fitsLayout, mostDepth, starts, startsBody, bodyAnswer}
 use Rattle.body.specs.Places.{kindsPlace}
 use Rattle.body.proofs.Places.{length-body}
 use Rattle.body.proofs.Starts.{fits-of, of-starts}
@@ -107,7 +108,7 @@ body-room kernel f s low = omega (arith, length-body setBytes (partsOf kernel f 
 
 -- a depth over 32 gives no body
 pub deep-key : (kernel : ℕ) (f : Faults) (s : State) (out : List ℕ) → mostDepth < s .hot .depth
-    → keyed (Refused notOfLayout 0) out ≡ bodyKey (partsOf kernel f s) out
+    → keyed (Refused (broken Rule.not-of-layout 0)) out ≡ bodyKey (partsOf kernel f s) out
 unfolding bodyKey partsOf
 deep-key kernel f s out h =
     let p = partsOf kernel f s in
@@ -125,11 +126,11 @@ copy-long s k e =
     sym (length-take-le k s (omega arith))
 
 module _ (s out : List ℕ) where
-  pub copy-none : (n q : ℕ) → NoBody n q ≡ bodyAnswer s 0 → keyed (Refused notOfLayout 0) out ≡ copied s out
+  pub copy-none : (x : Refusal) → NoBody x ≡ bodyAnswer s 0 → keyed (Refused (broken Rule.not-of-layout 0)) out ≡ copied s out
   unfolding copied
-  copy-none n q e = simp (refused-says s 0 n q e)
+  copy-none x e = simp (refused-says s 0 x e)
 
-  pub copy-short : (k : ℕ) → Length k ≡ bodyAnswer s 0 → length out < k → keyed (Refused short 0) out ≡ copied s out
+  pub copy-short : (k : ℕ) → Length k ≡ bodyAnswer s 0 → length out < k → keyed (Refused (broken Rule.short 0)) out ≡ copied s out
   unfolding copied
   copy-short k e h =
       let z = length-says s 0 k e in
@@ -175,14 +176,14 @@ module _ (kernel : ℕ) (r : Replayed) (out : List ℕ) where
   unfolding keyOf outcomeKey
   key-fault f e = ap (λ (o : Outcome). outcomeKey kernel o (r .state) out) (sym e)
 
-  pub key-ended : r .outcome ≡ Outcome.Ended → keyed (Refused notOfLayout 0) out ≡ keyOf kernel r out
+  pub key-ended : r .outcome ≡ Outcome.Ended → keyed (Refused (broken Rule.not-of-layout 0)) out ≡ keyOf kernel r out
   unfolding keyOf outcomeKey
   key-ended e = ap (λ (o : Outcome). outcomeKey kernel o (r .state) out) (sym e)
 
-  pub key-budget : r .outcome ≡ Outcome.OutOfBudget → keyed (Refused notOfLayout 0) out ≡ keyOf kernel r out
+  pub key-budget : r .outcome ≡ Outcome.OutOfBudget → keyed (Refused (broken Rule.not-of-layout 0)) out ≡ keyOf kernel r out
   unfolding keyOf outcomeKey
   key-budget e = ap (λ (o : Outcome). outcomeKey kernel o (r .state) out) (sym e)
 
-  pub key-refused : (q : Refusal) → r .outcome ≡ Outcome.Refused q → keyed (Refused notOfLayout 0) out ≡ keyOf kernel r out
+  pub key-refused : (q : Refusal) → r .outcome ≡ Outcome.Refused q → keyed (Refused (broken Rule.not-of-layout 0)) out ≡ keyOf kernel r out
   unfolding keyOf outcomeKey
   key-refused q e = ap (λ (o : Outcome). outcomeKey kernel o (r .state) out) (sym e)

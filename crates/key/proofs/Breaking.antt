@@ -8,10 +8,12 @@ use mathlib.Core.List.{List}
 use lib.Dec.{leb}
 use lib.ListN.{length}
 use borrow.Author.Tests.{leb-false, lt-leb}
+use Rattle.refusals.specs.Table.{Rule, broken}
+use Rattle.refusals.specs.declared.Refusal.{Refusal}
 use Rattle.ground.proofs.Bools.{never}
 use Rattle.ground.proofs.Tests.{false-of}
 use Rattle.body.specs.Body.{Parts, bytesOfBody}
-use Rattle.body.specs.Layout.{fitsLayout, short, notOfLayout}
+use Rattle.body.specs.Layout.{fitsLayout}
 use Rattle.faulting.specs.declared.faults.Faults.{Faults}
 use Rattle.replay.specs.declared.answers.Outcome.{Outcome}
 use Rattle.replay.specs.declared.answers.Replayed.{Replayed}
@@ -26,7 +28,7 @@ module _ (kernel : ℕ) (r : Replayed) (out : List ℕ) where
 
   -- the answer of the two tests
   abbrev answered : Parts → Bool → Bool → KeyAnswer
-  answered p fit roomy = cond fit (cond roomy (Wrote (length (bytesOfBody p))) (Refused short 0)) (Refused notOfLayout 0)
+  answered p fit roomy = cond fit (cond roomy (Wrote (length (bytesOfBody p))) (Refused (broken Rule.short 0))) (Refused (broken Rule.not-of-layout 0))
 
   body-answer : (p : Parts) (fit roomy : Bool) → fitsLayout p ≡ fit → leb (length (bytesOfBody p)) (length out) ≡ roomy
       → bodyKey p out .answer ≡ answered p fit roomy
@@ -35,34 +37,31 @@ module _ (kernel : ℕ) (r : Replayed) (out : List ℕ) where
   body-answer p true false a b = rw (a, b) refl
   body-answer p false roomy a b = rw a refl
 
-  broken-as : (m n p : ℕ) → KeyBreaks kernel r out m 0 → Refused m 0 ≡ Refused n p → KeyBreaks kernel r out n p
-  broken-as m n p b e =
-      let x : m ≡ n = cc in
-      let y : _≡_ {A = ℕ} 0 p = cc in
-      subst (λ (k : ℕ). KeyBreaks kernel r out n k) y (subst (λ (k : ℕ). KeyBreaks kernel r out k 0) x b)
+  broken-as : (x y : Refusal) → KeyBreaks kernel r out x → Refused x ≡ Refused y → KeyBreaks kernel r out y
+  broken-as x y b e = let z : x ≡ y = cc in subst (KeyBreaks kernel r out) z b
 
-  body-tested : (n p : ℕ) (f : Faults) → r .outcome ≡ Outcome.Fault f → (fit roomy : Bool) → fitsLayout (parts f) ≡ fit
-      → leb (length (bytesOfBody (parts f))) (length out) ≡ roomy → answered (parts f) fit roomy ≡ Refused n p → KeyBreaks kernel r out n p
-  body-tested n p f o false roomy a b e = broken-as notOfLayout n p (no-body f o (λ t. never (sym a ∙ t))) e
-  body-tested n p f o true false a b e = broken-as short n p (no-room f o a (leb-false _ _ b)) e
-  body-tested n p f o true true a b e = absurd (let z : _≡_ {A = ℕ} 0 1 = cc in omega arith)
+  body-tested : (x : Refusal) (f : Faults) → r .outcome ≡ Outcome.Fault f → (fit roomy : Bool) → fitsLayout (parts f) ≡ fit
+      → leb (length (bytesOfBody (parts f))) (length out) ≡ roomy → answered (parts f) fit roomy ≡ Refused x → KeyBreaks kernel r out x
+  body-tested x f o false roomy a b e = broken-as (broken Rule.not-of-layout 0) x (no-body f o (λ t. never (sym a ∙ t))) e
+  body-tested x f o true false a b e = broken-as (broken Rule.short 0) x (no-room f o a (leb-false _ _ b)) e
+  body-tested x f o true true a b e = absurd (let z : _≡_ {A = ℕ} 0 1 = cc in omega arith)
 
   unlike : (o : Outcome) (f : Faults) → r .outcome ≡ o → (o ≡ Outcome.Fault f → ⊥) → r .outcome ≡ Outcome.Fault f → ⊥
   unlike o f e g h = g (sym e ∙ h)
 
-  tested : (n p : ℕ) (o : Outcome) → r .outcome ≡ o → outcomeKey kernel o (r .state) out .answer ≡ Refused n p → KeyBreaks kernel r out n p
+  tested : (x : Refusal) (o : Outcome) → r .outcome ≡ o → outcomeKey kernel o (r .state) out .answer ≡ Refused x → KeyBreaks kernel r out x
   unfolding outcomeKey
-  tested n p (Outcome.Fault f) h e =
-      body-tested n p f h (fitsLayout (parts f)) (leb (length (bytesOfBody (parts f))) (length out)) refl refl
+  tested x (Outcome.Fault f) h e =
+      body-tested x f h (fitsLayout (parts f)) (leb (length (bytesOfBody (parts f))) (length out)) refl refl
       (sym (body-answer (parts f) (fitsLayout (parts f)) (leb (length (bytesOfBody (parts f))) (length out)) refl refl) ∙ e)
-  tested n p Outcome.Ended h e =
-      broken-as notOfLayout n p (no-fault (λ f. unlike Outcome.Ended f h (λ z. (let y : _≡_ {A = ℕ} 0 1 = cc in omega arith)))) e
-  tested n p Outcome.OutOfBudget h e =
-      broken-as notOfLayout n p (no-fault (λ f. unlike Outcome.OutOfBudget f h (λ z. (let y : _≡_ {A = ℕ} 0 1 = cc in omega arith)))) e
-  tested n p (Outcome.Refused q) h e =
-      broken-as notOfLayout n p (no-fault (λ f. unlike (Outcome.Refused q) f h (λ z. (let y : _≡_ {A = ℕ} 0 1 = cc in omega arith)))) e
+  tested x Outcome.Ended h e =
+      broken-as (broken Rule.not-of-layout 0) x (no-fault (λ f. unlike Outcome.Ended f h (λ z. (let y : _≡_ {A = ℕ} 0 1 = cc in omega arith)))) e
+  tested x Outcome.OutOfBudget h e =
+      broken-as (broken Rule.not-of-layout 0) x (no-fault (λ f. unlike Outcome.OutOfBudget f h (λ z. (let y : _≡_ {A = ℕ} 0 1 = cc in omega arith)))) e
+  tested x (Outcome.Refused q) h e =
+      broken-as (broken Rule.not-of-layout 0) x (no-fault (λ f. unlike (Outcome.Refused q) f h (λ z. (let y : _≡_ {A = ℕ} 0 1 = cc in omega arith)))) e
 
-  not-keyed : (o : Outcome) → ((f : Faults) → o ≡ Outcome.Fault f → ⊥) → outcomeKey kernel o (r .state) out .answer ≡ Refused notOfLayout 0
+  not-keyed : (o : Outcome) → ((f : Faults) → o ≡ Outcome.Fault f → ⊥) → outcomeKey kernel o (r .state) out .answer ≡ Refused (broken Rule.not-of-layout 0)
   unfolding outcomeKey
   not-keyed (Outcome.Fault f) g = absurd (g f refl)
   not-keyed Outcome.Ended g = refl
@@ -73,14 +72,14 @@ module _ (kernel : ℕ) (r : Replayed) (out : List ℕ) where
   unfolding keyOf outcomeKey
   of-fault f e = ap (λ (o : Outcome). outcomeKey kernel o (r .state) out .answer) e
 
-  broken : (n p : ℕ) → KeyBreaks kernel r out n p → keyOf kernel r out .answer ≡ Refused n p
+  broken-is : (x : Refusal) → KeyBreaks kernel r out x → keyOf kernel r out .answer ≡ Refused x
   unfolding keyOf
-  broken n p (no-fault g) = not-keyed (r .outcome) g
-  broken n p (no-body f o g) =
+  broken-is x (no-fault g) = not-keyed (r .outcome) g
+  broken-is x (no-body f o g) =
       of-fault f o ∙ body-answer (parts f) false _ (false-of (fitsLayout (parts f)) g) refl
-  broken n p (no-room f o a l) = of-fault f o ∙ body-answer (parts f) true false a (lt-leb _ _ l)
+  broken-is x (no-room f o a l) = of-fault f o ∙ body-answer (parts f) true false a (lt-leb _ _ l)
 
   -- WRITING A KEY is refused exactly by the first of 14 and 13 that is broken
-  pub key-refused : (n p : ℕ) → (keyOf kernel r out .answer ≡ Refused n p) ↔ KeyBreaks kernel r out n p
+  pub key-refused : (x : Refusal) → (keyOf kernel r out .answer ≡ Refused x) ↔ KeyBreaks kernel r out x
   unfolding keyOf
-  key-refused n p = (tested n p (r .outcome) refl, broken n p)
+  key-refused x = (tested x (r .outcome) refl, broken-is x)

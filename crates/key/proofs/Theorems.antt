@@ -9,12 +9,14 @@ use borrow.Author.Tests.{leb-true}
 use lib.Dec.{leb}
 use lib.ListN.{length, take, drop}
 use lib.Seq.{take-append-seam}
+use Rattle.refusals.specs.Table.{Rule, broken}
+use Rattle.refusals.specs.declared.Refusal.{Refusal}
 use Rattle.ground.proofs.Choices.{cond-by}
 use Rattle.ground.proofs.Tests.{true-or-false}
 use Rattle.numbers.specs.Placed.{placed}
 use Rattle.numbers.proofs.Placing.{placed-front}
 use Rattle.body.specs.Body.{Parts, bodyFormat, setBytes, bytesOfBody}
-use Rattle.body.specs.Layout.{kindLists, fitsLayout, isBody, short, notOfLayout}
+use Rattle.body.specs.Layout.{kindLists, fitsLayout, isBody}
 use Rattle.body.proofs.Written.{one-body, written-body}
 use Rattle.wave.specs.declared.state.State.{State}
 use Rattle.faulting.specs.declared.faults.Faults.{Faults}
@@ -35,9 +37,9 @@ pub record Key (p : Parts) (n : ℕ) (out : List ℕ) : Type 0 where
 wrote-inj : (m n : ℕ) (x y : List ℕ) → keyed (Wrote m) x ≡ keyed (Wrote n) y → (m ≡ n) × (x ≡ y)
 wrote-inj m n x y e = let a : Wrote m ≡ Wrote n = ap (λ (k : Keying). k .answer) e in (cc, ap (λ (k : Keying). k .out) e)
 
-not-written : (n number place : ℕ) (x y : List ℕ) → keyed (Wrote n) x ≡ keyed (Refused number place) y → ⊥
-not-written n number place x y e =
-    let a : Wrote n ≡ Refused number place = ap (λ (k : Keying). k .answer) e in let z : _≡_ {A = ℕ} 0 1 = cc in omega arith
+not-written : (n : ℕ) (z : Refusal) (x y : List ℕ) → keyed (Wrote n) x ≡ keyed (Refused z) y → ⊥
+not-written n z x y e =
+    let a : Wrote n ≡ Refused z = ap (λ (k : Keying). k .answer) e in let o : _≡_ {A = ℕ} 0 1 = cc in omega arith
 
 body-key : (p : Parts) (n : ℕ) (now out : List ℕ) → keyed (Wrote n) now ≡ bodyKey p out → Key p n now
 unfolding bodyKey
@@ -50,9 +52,9 @@ body-key p n now out e =
     let w = wrote-inj n (length b) now (placed out 0 b) (e ∙ simp (f, l)) in
     let s : now ≡ b ++ drop (length b) out = w .1 ∙ placed-front out b (leb-true _ _ l) in
     record { fits = f; size = w .0; bytes = rw (w .0, s) (take-append-seam b (drop (length b) out)) })
-    (λ (l : leb (length b) (length out) ≡ false). absurd (not-written n short 0 now out (e ∙ simp (f, l))))
+    (λ (l : leb (length b) (length out) ≡ false). absurd (not-written n (broken Rule.short 0) now out (e ∙ simp (f, l))))
     (true-or-false (leb (length b) (length out))))
-    (λ (f : fitsLayout p ≡ false). absurd (not-written n notOfLayout 0 now out (e ∙ simp f)))
+    (λ (f : fitsLayout p ≡ false). absurd (not-written n (broken Rule.not-of-layout 0) now out (e ∙ simp f)))
     (true-or-false (fitsLayout p))
 
 -- what a run answered that has a key: a fault, and its body
@@ -65,9 +67,9 @@ outcome-key : (kernel n : ℕ) (r : Replayed) (now out : List ℕ) (o : Outcome)
     → keyed (Wrote n) now ≡ outcomeKey kernel o (r .state) out → Keyed kernel r n now
 unfolding outcomeKey
 outcome-key kernel n r now out (Outcome.Fault f) h e = record { faults = f; outcome = h; key = body-key (partsOf kernel f (r .state)) n now out e }
-outcome-key kernel n r now out Outcome.Ended h e = absurd (not-written n notOfLayout 0 now out e)
-outcome-key kernel n r now out Outcome.OutOfBudget h e = absurd (not-written n notOfLayout 0 now out e)
-outcome-key kernel n r now out (Outcome.Refused q) h e = absurd (not-written n notOfLayout 0 now out e)
+outcome-key kernel n r now out Outcome.Ended h e = absurd (not-written n (broken Rule.not-of-layout 0) now out e)
+outcome-key kernel n r now out Outcome.OutOfBudget h e = absurd (not-written n (broken Rule.not-of-layout 0) now out e)
+outcome-key kernel n r now out (Outcome.Refused q) h e = absurd (not-written n (broken Rule.not-of-layout 0) now out e)
 
 -- THEOREM: only a fault has a key, and what was written is its body
 pub key-written : (kernel n : ℕ) (r : Replayed) (now out : List ℕ) → keyed (Wrote n) now ≡ keyOf kernel r out → Keyed kernel r n now
@@ -76,21 +78,21 @@ key-written kernel n r now out e = outcome-key kernel n r now out (r .outcome) r
 
 -- ---- what was not
 
-refused-wrote : (k n p : ℕ) → Wrote k ≡ Refused n p → ⊥
-refused-wrote k n p e = let z : _≡_ {A = ℕ} 0 1 = cc in omega arith
+refused-wrote : (k : ℕ) (x : Refusal) → Wrote k ≡ Refused x → ⊥
+refused-wrote k x e = let z : _≡_ {A = ℕ} 0 1 = cc in omega arith
 
-module _ (n q : ℕ) (out : List ℕ) where
-  body-keeps : (p : Parts) → bodyKey p out .answer ≡ Refused n q → bodyKey p out .out ≡ out
+module _ (x : Refusal) (out : List ℕ) where
+  body-keeps : (p : Parts) → bodyKey p out .answer ≡ Refused x → bodyKey p out .out ≡ out
   unfolding bodyKey
   body-keeps p =
-      cond-by (λ (k : Keying). k .answer ≡ Refused n q → k .out ≡ out) (fitsLayout p) _ _
+      cond-by (λ (k : Keying). k .answer ≡ Refused x → k .out ≡ out) (fitsLayout p) _ _
       (λ t.
-      cond-by (λ (k : Keying). k .answer ≡ Refused n q → k .out ≡ out) (leb (length (bytesOfBody p)) (length out)) _ _
-      (λ u e. absurd (refused-wrote (length (bytesOfBody p)) n q e))
+      cond-by (λ (k : Keying). k .answer ≡ Refused x → k .out ≡ out) (leb (length (bytesOfBody p)) (length out)) _ _
+      (λ u e. absurd (refused-wrote (length (bytesOfBody p)) x e))
       (λ u e. refl))
       (λ t e. refl)
 
-  outcome-keeps : (kernel : ℕ) (o : Outcome) (s : State) → outcomeKey kernel o s out .answer ≡ Refused n q → outcomeKey kernel o s out .out ≡ out
+  outcome-keeps : (kernel : ℕ) (o : Outcome) (s : State) → outcomeKey kernel o s out .answer ≡ Refused x → outcomeKey kernel o s out .out ≡ out
   unfolding outcomeKey
   outcome-keeps kernel (Outcome.Fault f) s e = body-keeps (partsOf kernel f s) e
   outcome-keeps kernel Outcome.Ended s e = refl
@@ -98,7 +100,7 @@ module _ (n q : ℕ) (out : List ℕ) where
   outcome-keeps kernel (Outcome.Refused q) s e = refl
 
   -- THEOREM: a refusal leaves the output as lent
-  pub refused-keeps : (kernel : ℕ) (r : Replayed) → keyOf kernel r out .answer ≡ Refused n q → keyOf kernel r out .out ≡ out
+  pub refused-keeps : (kernel : ℕ) (r : Replayed) → keyOf kernel r out .answer ≡ Refused x → keyOf kernel r out .out ≡ out
   unfolding keyOf
   refused-keeps kernel r e = outcome-keeps kernel (r .outcome) (r .state) e
 

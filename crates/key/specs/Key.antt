@@ -4,10 +4,11 @@ use mathlib.Core.Bool.{cond}
 use mathlib.Core.List.{List, reverse}
 use lib.Dec.{leb}
 use lib.ListN.{length}
+use Rattle.refusals.specs.Table.{Rule, broken}
 use Rattle.lanes.specs.declared.said.Block.{Block}
 use Rattle.numbers.specs.Placed.{placed}
 use Rattle.body.specs.Body.{Parts, bytesOfBody}
-use Rattle.body.specs.Layout.{fitsLayout, short, notOfLayout}
+use Rattle.body.specs.Layout.{fitsLayout}
 use Rattle.wave.specs.declared.state.State.{State}
 use Rattle.wave.specs.Layout.{opened}
 use Rattle.faulting.specs.declared.faults.Faults.{Faults}
@@ -51,15 +52,15 @@ bodyKey p out =
     cond (fitsLayout p)
     (cond (leb (length (bytesOfBody p)) (length out))
     (keyed (Wrote (length (bytesOfBody p))) (placed out 0 (bytesOfBody p)))
-    (keyed (Refused short 0) out))
-    (keyed (Refused notOfLayout 0) out)
+    (keyed (Refused (broken Rule.short 0)) out))
+    (keyed (Refused (broken Rule.not-of-layout 0)) out)
 
 -- 14 where the outcome is no fault
 unfoldable pub outcomeKey : ℕ → Outcome → State → List ℕ → Keying
 outcomeKey kernel (Outcome.Fault f) s out = bodyKey (partsOf kernel f s) out
-outcomeKey kernel Outcome.Ended s out = keyed (Refused notOfLayout 0) out
-outcomeKey kernel Outcome.OutOfBudget s out = keyed (Refused notOfLayout 0) out
-outcomeKey kernel (Outcome.Refused r) s out = keyed (Refused notOfLayout 0) out
+outcomeKey kernel Outcome.Ended s out = keyed (Refused (broken Rule.not-of-layout 0)) out
+outcomeKey kernel Outcome.OutOfBudget s out = keyed (Refused (broken Rule.not-of-layout 0)) out
+outcomeKey kernel (Outcome.Refused q) s out = keyed (Refused (broken Rule.not-of-layout 0)) out
 
 -- the key of what a run answered
 unfoldable pub keyOf : ℕ → Replayed → List ℕ → Keying

@@ -6,12 +6,13 @@ use mathlib.Core.Bool.{true, cond}
 use mathlib.Core.List.{List, [], _∷_, _++_, flatMap}
 use lib.Dec.{eqb, leb}
 use lib.ListN.{length, take}
+use Rattle.refusals.specs.Table.{Rule, broken}
 use Rattle.numbers.specs.Numbers.{bytesOfAll}
 use Rattle.numbers.specs.Placed.{placed}
 use Rattle.lanes.specs.declared.said.Block.{Block}
 use Rattle.lanes.specs.declared.said.Fault.{Fault}
 use Rattle.body.specs.Body.{Parts, bodyFormat, setBytes, bytesOfBody, sizeAt}
-use Rattle.body.specs.Layout.{mostDepth, faultBytes, lengthOf, startsBody, short, notOfLayout}
+use Rattle.body.specs.Layout.{mostDepth, faultBytes, lengthOf, startsBody}
 use Rattle.body.specs.Places.{kindsPlace}
 use Rattle.wave.specs.declared.state.State.{State}
 use Rattle.wave.specs.Layout.{six}
@@ -75,5 +76,5 @@ pub record Put (p : Parts) (before now : List ℕ) : Type 0 where
 unfoldable pub copied : List ℕ → List ℕ → Keying
 copied s out =
     cond (startsBody s)
-    (cond (leb (sizeAt s) (length out)) (keyed (Wrote (sizeAt s)) (placed out 0 (take (sizeAt s) s))) (keyed (Refused short 0) out))
-    (keyed (Refused notOfLayout 0) out)
+    (cond (leb (sizeAt s) (length out)) (keyed (Wrote (sizeAt s)) (placed out 0 (take (sizeAt s) s))) (keyed (Refused (broken Rule.short 0)) out))
+    (keyed (Refused (broken Rule.not-of-layout 0)) out)

@@ -1,7 +1,8 @@
-// What writing a key answers. A refusal is page 01's number and place.
+// What writing a key answers.
+use refusals::Refusal;
 
 // The length of the body that was written.
 pub enum KeyAnswer {
     Wrote(usize),
-    Refused(u32, usize),
+    Refused(Refusal),
 }

@@ -3,8 +3,6 @@ use crate::answer::KeyAnswer;
 use crate::putting::put_body;
 use body::BodyAnswer;
 use body::MOST_DEPTH;
-use body::NOT_OF_LAYOUT;
-use body::SHORT;
 use body::body_length;
 use body::fields::BLOCK_BYTES;
 use body::fields::FAULT_BYTES;
@@ -12,6 +10,9 @@ use body::fields::HEAD_BYTES;
 use faulting::faults::Faults;
 use faulting::faults::KINDS;
 use numbers::put_bytes;
+use refusals::NOT_OF_LAYOUT;
+use refusals::Refusal;
+use refusals::SHORT;
 use replay::answers::Outcome;
 use replay::answers::Replayed;
 use wave::state::NESTING;
@@ -28,10 +29,16 @@ fn copy_body(bytes: &[u8], out: &mut [u8]) -> KeyAnswer
     ensures { λ r. ⌜ keyed r (now (out .exit)) ≡ copied (now (bytes .entry)) (now (out .entry)) ⌝ }
 {
     let BodyAnswer::Length(size) = body_length(bytes, 0) else {
-        return KeyAnswer::Refused(NOT_OF_LAYOUT, 0);
+        return KeyAnswer::Refused(Refusal {
+            number: NOT_OF_LAYOUT,
+            place: 0,
+        });
     };
     if out.len() < size {
-        return KeyAnswer::Refused(SHORT, 0);
+        return KeyAnswer::Refused(Refusal {
+            number: SHORT,
+            place: 0,
+        });
     }
     put_bytes(out, 0, &bytes[..size]);
     KeyAnswer::Wrote(size)
@@ -42,7 +49,10 @@ fn write_fault(kernel: u32, f: Faults, state: State, out: &mut [u8]) -> KeyAnswe
     ensures { λ r. ⌜ keyed r (now (out .exit)) ≡ bodyKey (partsOf kernel f state) (now (out .entry)) ⌝ }
 {
     if NESTING < state.hot.depth {
-        return KeyAnswer::Refused(NOT_OF_LAYOUT, 0);
+        return KeyAnswer::Refused(Refusal {
+            number: NOT_OF_LAYOUT,
+            place: 0,
+        });
     }
     let mut body = [0; ROOM];
     put_body(kernel, f, state, &mut body);
@@ -58,8 +68,17 @@ pub fn write_key(kernel: u32, answer: Replayed, out: &mut [u8]) -> KeyAnswer
     let outcome = answer.outcome;
     match outcome {
         Outcome::Fault(f) => write_fault(kernel, f, state, out),
-        Outcome::Ended => KeyAnswer::Refused(NOT_OF_LAYOUT, 0),
-        Outcome::OutOfBudget => KeyAnswer::Refused(NOT_OF_LAYOUT, 0),
-        Outcome::Refused(_) => KeyAnswer::Refused(NOT_OF_LAYOUT, 0),
+        Outcome::Ended => KeyAnswer::Refused(Refusal {
+            number: NOT_OF_LAYOUT,
+            place: 0,
+        }),
+        Outcome::OutOfBudget => KeyAnswer::Refused(Refusal {
+            number: NOT_OF_LAYOUT,
+            place: 0,
+        }),
+        Outcome::Refused(_) => KeyAnswer::Refused(Refusal {
+            number: NOT_OF_LAYOUT,
+            place: 0,
+        }),
     }
 }

@@ -10,6 +10,7 @@ use lib.ListN.{length, getD, take, drop, length-append, length-map, drop-of-leng
 use lib.Seq.{drop-cons, take-at}
 use mathlib.Core.Logic.{⊎-elim}
 use borrow.Author.Tests.{eq-eqb, ne-eqb, eqb-true, lt-ltb, le-ltb}
+use Rattle.refusals.specs.declared.Refusal.{Refusal}
 use Rattle.ground.specs.Tests.{allOf}
 use Rattle.numbers.specs.Placed.{placed, Puts}
 use Rattle.numbers.proofs.Placing.{placed-append, placed-nil, placed-front, length-placed, puts-join, puts-same, puts-kept}
@@ -325,5 +326,5 @@ module _ (f o out : List ℕ) (r : CountAnswer) (room : length o ≡ mostRecords
         firsts = ap (take n) (c .2 ∙ p) ∙ take-at fs (drop (length fs) o) n (l ∙ sym en);
       }
 
-  pub firsts-not : (k p : ℕ) → r ≡ NotCounted k p → (refusalOf f ≡ 0 → ⊥) × (k ≡ refusalOf f)
-  firsts-not k p h = refused-count-says f o out fits k p (ap (λ (a : CountAnswer). counted a out) (sym h) ∙ e)
+  pub firsts-not : (x : Refusal) → r ≡ NotCounted x → (refusalOf f ≡ 0 → ⊥) × (x .number ≡ refusalOf f)
+  firsts-not x h = refused-count-says f o out fits x (ap (λ (a : CountAnswer). counted a out) (sym h) ∙ e)

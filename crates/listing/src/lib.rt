@@ -38,6 +38,6 @@ pub fn list(file: &[u8], out: &mut [u8]) -> usize
     let mut firsts = [0u32; dayfile::MOST_RECORDS];
     match dayfile::firsts(file, &mut firsts) {
         CountAnswer::Count(n) => put_table(out, file, &firsts[..n]),
-        CountAnswer::Refused(number, _) => put_refusal(out, number),
+        CountAnswer::Refused(refusal) => put_refusal(out, refusal.number),
     }
 }

@@ -49,7 +49,7 @@ fn make_of(bodies: &[u8]) {
                 write_whole(b"standard output", STDOUT_FILENO, &file[..k]);
             }
         }
-        MakeAnswer::Refused(number, place) => refuse(number, place),
+        MakeAnswer::Refused(refusal) => refuse(refusal.number, refusal.place),
     }
 }
 

@@ -65,7 +65,7 @@ settings width lanes registers budget = record { width = width; registers = regi
 -- the key that was written: so many bytes of the room
 abbrev pub bytesIn : KeyAnswer → List ℕ → List ℕ
 bytesIn (Wrote n) out = take n out
-bytesIn (Refused number place) out = []
+bytesIn (Refused x) out = []
 
 abbrev pub written : Keying → List ℕ
 written k = bytesIn (k .answer) (k .out)

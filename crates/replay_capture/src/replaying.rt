@@ -53,7 +53,7 @@ fn tell(kernel: u32, answer: Replayed, code: &[u32]) {
                 tell_fault(answer, code, &body[..n]);
             }
         }
-        KeyAnswer::Refused(number, place) => tell_end(answer, code),
+        KeyAnswer::Refused(_) => tell_end(answer, code),
     }
 }
 

@@ -40,7 +40,7 @@ returns-3 : tie.Need-returns-3
 returns-3 c =
     let z = c .before .before .before .before .before in
     let y = z .before .before .before in
-    let k = firsts-not _ _ (y .firsts2 .last .1 .0) _ refl (y .firsts2 .ensures) _ _ (z .number .given .1) in
+    let k = firsts-not _ _ (y .firsts2 .last .1 .0) _ refl (y .firsts2 .ensures) _ (z .refusal .given .1) in
     puts-same (text-refused _ (y .before .before .if1 .left) _ (k .0) (k .1)) (c .before .before .put-refusal .ensures)
 
 pub list-spec : {M : Type 1} → statement M

@@ -12,7 +12,7 @@ answered : (z : tie.After-size) → Length (z .size .given .0 .0) ≡ bodyAnswer
 answered z = sym (z .size .given .1) ∙ z .before .before .body-length .ensures
 
 returns : tie.Need-returns
-returns c = copy-none _ _ _ _ (sym (c .enum-told .given .1) ∙ c .before .before .body-length .ensures)
+returns c = copy-none _ _ _ (sym (c .enum-told .given .1) ∙ c .before .before .body-length .ensures)
 
 returns-2 : tie.Need-returns-2
 returns-2 c = copy-short _ _ _ (answered (c .before .before)) (c .if1 .taken)
