@@ -16,9 +16,9 @@ use Rattle.captures.specs.declared.answer.ReadAnswer.the-variants.{Read,
 use Rattle.captures.specs.declared.testing.Verdict.{Verdict}
 use Rattle.captures.specs.declared.testing.Verdict.the-variants.{Fine, Broken}
 use Rattle.captures.specs.declared.testing.Places.{Places}
-use Rattle.captures.specs.Capture.{mark, edition, markPlace, editionPlace, kernelPlace, sixthCount, headerBytes, stateSize}
-use Rattle.captures.specs.Read.{headAt, countsAt, placesOf, captureIn, next, depthOf, testHead, testRooms, testState, verdictOf}
-use Rattle.captures.specs.Read.{Lent, lent, roomsOf, Within, filled, reading, judged, readOf}
+use Rattle.captures.specs.Capture.{mark, edition, markPlace, editionPlace, kernelPlace, sixthCount, headerBytes, stateSize, Parts, inParts, countsOf}
+use Rattle.captures.specs.Read.{headAt, countsAt, placesOf, partsIn, next, depthOf, testHead, testRooms, testState, verdictOf}
+use Rattle.captures.specs.Read.{Within, filled, reading, judged, readOf}
 
 -- ---- what the tests say
 
@@ -109,28 +109,28 @@ module _ (f : List ℕ) (rooms : Counts) where
 
 -- ---- there is room for the words
 
-module _ (f : List ℕ) (l : Lent) (v : verdictOf f (roomsOf l) ≡ Fine) (n : Counts) (en : n ≡ countsAt f) where
-  pub room-for : Within n (roomsOf l)
-  room-for = rw en (accepted f (roomsOf l) v .within)
+module _ (f : List ℕ) (l : Parts) (v : verdictOf f (countsOf l) ≡ Fine) (n : Counts) (en : n ≡ countsAt f) where
+  pub room-for : Within n (countsOf l)
+  room-for = rw en (accepted f (countsOf l) v .within)
 
 -- ---- the words taken
 
-module _ (f : List ℕ) (l : Lent) (n : Counts) (en : n ≡ countsAt f) (at : Places) (et : at ≡ placesOf (countsAt f)) where
+module _ (f : List ℕ) (l : Parts) (n : Counts) (en : n ≡ countsAt f) (at : Places) (et : at ≡ placesOf (countsAt f)) where
   pub taken : (a b c d e : List ℕ) → a ≡ placed (l .code) 0 (numbersAt f headerBytes (n .code))
       → b ≡ placed (l .registers) 0 (numbersAt f (at .registers) (n .registers)) → c ≡ placed (l .device) 0 (numbersAt f (at .device) (n .device))
       → d ≡ placed (l .local) 0 (numbersAt f (at .local) (n .local)) → e ≡ placed (l .state) 0 (numbersAt f (at .state) (n .state))
-      → lent a b c d e ≡ filled (captureIn f) l
-  unfolding filled captureIn
+      → inParts a b c d e ≡ filled (partsIn f) l
+  unfolding filled partsIn
   taken a b c d e ea eb ec ed ee = rw (ea, eb, ec, ed, ee, et, en)
 
 -- ---- the answer
 
-module _ (f : List ℕ) (l : Lent) (v : Verdict) (ev : v ≡ verdictOf f (roomsOf l)) where
+module _ (f : List ℕ) (l : Parts) (v : Verdict) (ev : v ≡ verdictOf f (countsOf l)) where
   pub read-broken : (r : Rule) (p : ℕ) → v ≡ Broken r p → reading (Unreadable r p) l ≡ readOf f l
   unfolding readOf judged
   read-broken r p e = rw (← ev, e)
 
-  pub read-fine : (h : Head) (n : Counts) (m : Lent) → v ≡ Fine → m ≡ filled (captureIn f) l → h ≡ headAt f → n ≡ countsAt f
+  pub read-fine : (h : Head) (n : Counts) (m : Parts) → v ≡ Fine → m ≡ filled (partsIn f) l → h ≡ headAt f → n ≡ countsAt f
       → reading (Read h n) m ≡ readOf f l
   unfolding readOf judged
   read-fine h n m e em eh en = rw (← ev, e, em, eh, en)

@@ -16,9 +16,9 @@ use Rattle.numbers.proofs.Numerals.{small-nil, small-cons, small-append, Stand,
 use Rattle.numbers.proofs.Words.{length-numbers, getD-numbers, numbers-back, numbers-hold, numbers-small}
 use Rattle.captures.specs.declared.answer.Counts.{Counts}
 use Rattle.captures.specs.declared.testing.Places.{Places}
-use Rattle.captures.specs.Capture.{mark, edition, headerBytes, Capture, headOf, headerOf, partsOf, captureOf}
+use Rattle.captures.specs.Capture.{mark, edition, headerBytes, countsOf, Capture, headOf, headerOf, joined, captureOf}
 use Rattle.captures.specs.Capture.{stateSize, stateFits, fits, Filed, depthWord}
-use Rattle.captures.specs.Read.{headAt, countsAt, placesOf, captureIn, depthOf, countsOf, Within}
+use Rattle.captures.specs.Read.{headAt, countsAt, placesOf, partsIn, captureIn, depthOf, Within}
 use Rattle.captures.proofs.Laid.{fits-known, known-fits, length-capture}
 use Rattle.captures.proofs.Accepted.{Accepted}
 
@@ -68,14 +68,14 @@ module _ (n d word : ℕ) (same : 6 < n → word ≡ d) where
 -- ---- from a capture to its file and back
 
 module _ (c : Capture) (g : Filed c) where
-  file-stands : Stand (captureOf c) [] 0 (headerOf c ++ partsOf c)
+  file-stands : Stand (captureOf c) [] 0 (headerOf c ++ joined (c .parts))
   unfolding captureOf
-  file-stands = record { small = g .small; bytes = sym (append-nil (bytesOfAll (headerOf c ++ partsOf c))) }
+  file-stands = record { small = g .small; bytes = sym (append-nil (bytesOfAll (headerOf c ++ joined (c .parts)))) }
 
   -- a number of the header
   header-at : (i : ℕ) → i < 13 → numberAt (captureOf c) (4 * i) ≡ getD (headerOf c) i 0
   unfolding headerOf
-  header-at i h = stand-nth (headerOf c) (stand-front (headerOf c) (partsOf c) file-stands) (4 * i) i (omega arith) h
+  header-at i h = stand-nth (headerOf c) (stand-front (headerOf c) (joined (c .parts)) file-stands) (4 * i) i (omega arith) h
 
   pub head-back : headAt (captureOf c) ≡ c .head
   unfolding headAt headerOf
@@ -83,7 +83,7 @@ module _ (c : Capture) (g : Filed c) where
       let n = header-at in
       rw (n 2 (omega arith), n 3 (omega arith), n 4 (omega arith), n 5 (omega arith), n 6 (omega arith))
 
-  pub counts-back : countsAt (captureOf c) ≡ countsOf c
+  pub counts-back : countsAt (captureOf c) ≡ countsOf (c .parts)
   unfolding countsAt countsOf headerOf
   counts-back =
       let n = header-at in
@@ -91,49 +91,49 @@ module _ (c : Capture) (g : Filed c) where
 
   -- where the words of each part stand, and those of the parts behind it
   abbrev at : Places
-  at = placesOf (countsOf c)
+  at = placesOf (countsOf (c .parts))
 
-  at-code : Stand (captureOf c) [] headerBytes (partsOf c)
+  at-code : Stand (captureOf c) [] headerBytes (joined (c .parts))
   unfolding headerOf
-  at-code = stand-rest (headerOf c) (partsOf c) file-stands
+  at-code = stand-rest (headerOf c) (joined (c .parts)) file-stands
 
-  at-registers : Stand (captureOf c) [] (at .registers) (c .registers ++ (c .device ++ (c .local ++ c .state)))
-  unfolding placesOf countsOf partsOf
-  at-registers = stand-rest (c .code) _ at-code
+  at-registers : Stand (captureOf c) [] (at .registers) (c .parts .registers ++ (c .parts .device ++ (c .parts .local ++ c .parts .state)))
+  unfolding placesOf countsOf joined
+  at-registers = stand-rest (c .parts .code) _ at-code
 
-  at-device : Stand (captureOf c) [] (at .device) (c .device ++ (c .local ++ c .state))
+  at-device : Stand (captureOf c) [] (at .device) (c .parts .device ++ (c .parts .local ++ c .parts .state))
   unfolding placesOf countsOf
-  at-device = stand-rest (c .registers) _ at-registers
+  at-device = stand-rest (c .parts .registers) _ at-registers
 
-  at-local : Stand (captureOf c) [] (at .local) (c .local ++ c .state)
+  at-local : Stand (captureOf c) [] (at .local) (c .parts .local ++ c .parts .state)
   unfolding placesOf countsOf
-  at-local = stand-rest (c .device) _ at-device
+  at-local = stand-rest (c .parts .device) _ at-device
 
-  at-state : Stand (captureOf c) [] (at .state) (c .state)
+  at-state : Stand (captureOf c) [] (at .state) (c .parts .state)
   unfolding placesOf countsOf
-  at-state = stand-rest (c .local) (c .state) at-local
+  at-state = stand-rest (c .parts .local) (c .parts .state) at-local
 
   -- a capture comes back from its file
   pub capture-back : captureIn (captureOf c) ≡ c
-  unfolding captureIn placesOf countsOf partsOf
+  unfolding partsIn placesOf countsOf joined
   capture-back =
       rw (
         counts-back,
         head-back,
-        numbers-back (c .code) _ (stand-front (c .code) _ at-code),
-        numbers-back (c .registers) _ (stand-front (c .registers) _ at-registers),
-        numbers-back (c .device) _ (stand-front (c .device) _ at-device),
-        numbers-back (c .local) _ (stand-front (c .local) _ at-local),
-        numbers-back (c .state) _ at-state,
+        numbers-back (c .parts .code) _ (stand-front (c .parts .code) _ at-code),
+        numbers-back (c .parts .registers) _ (stand-front (c .parts .registers) _ at-registers),
+        numbers-back (c .parts .device) _ (stand-front (c .parts .device) _ at-device),
+        numbers-back (c .parts .local) _ (stand-front (c .parts .local) _ at-local),
+        numbers-back (c .parts .state) _ at-state,
       )
 
   -- the depth is read off the state's seventh word
-  depth-back : 6 < length (c .state) → numberAt (captureOf c) (at .depth) ≡ getD (c .state) depthWord 0
+  depth-back : 6 < length (c .parts .state) → numberAt (captureOf c) (at .depth) ≡ getD (c .parts .state) depthWord 0
   unfolding placesOf
-  depth-back h = stand-nth (c .state) at-state (at .depth) 6 refl h
+  depth-back h = stand-nth (c .parts .state) at-state (at .depth) 6 refl h
 
   -- the file of a capture breaks no rule
-  pub file-accepted : (rooms : Counts) → Within (countsOf c) rooms → Accepted (captureOf c) rooms
+  pub file-accepted : (rooms : Counts) → Within (countsOf (c .parts)) rooms → Accepted (captureOf c) rooms
   unfolding headerOf placesOf countsOf stateFits
   file-accepted rooms w =
       let l = length-capture c in
@@ -143,22 +143,22 @@ module _ (c : Capture) (g : Filed c) where
         marked = header-at 0 (omega arith);
         edited = header-at 1 (omega arith);
         within = rw e w;
-        shape = rw e (shape-so (length (c .state)) (getD (c .state) depthWord 0) _ depth-back (g .shape));
+        shape = rw e (shape-so (length (c .parts .state)) (getD (c .parts .state) depthWord 0) _ depth-back (g .shape));
         sixth = header-at 12 (omega arith);
         whole = rw e (omega arith);
-        deep = rw e (deep-so (length (c .state)) (getD (c .state) depthWord 0) _ depth-back (g .shape));
+        deep = rw e (deep-so (length (c .parts .state)) (getD (c .parts .state) depthWord 0) _ depth-back (g .shape));
       }
 
 -- ---- from a file to its capture and back
 
 module _ (f : List ℕ) (by : Bytes f) (rooms : Counts) (a : Accepted f rooms) where
   header-numbers : headerOf (captureIn f) ≡ numbersAt f 0 13
-  unfolding headerOf captureIn headAt countsAt numbersAt
+  unfolding headerOf partsIn headAt countsAt numbersAt
   header-numbers = simp (length-numbers, a .marked, a .edited, a .sixth)
 
   -- the bytes of a file that breaks no rule are those of its numbers
   pub file-back : captureOf (captureIn f) ≡ f
-  unfolding captureOf partsOf captureIn placesOf
+  unfolding captureOf joined partsIn placesOf
   file-back =
       let n = countsAt f in
       let at = placesOf n in
@@ -179,7 +179,7 @@ module _ (f : List ℕ) (by : Bytes f) (rooms : Counts) (a : Accepted f rooms) w
 
   -- and its capture is one that a file is of
   pub file-filed : Filed (captureIn f)
-  unfolding partsOf captureIn stateFits placesOf
+  unfolding joined partsIn stateFits placesOf
   file-filed =
       let n = countsAt f in
       let at = placesOf n in
@@ -194,8 +194,8 @@ module _ (f : List ℕ) (by : Bytes f) (rooms : Counts) (a : Accepted f rooms) w
         shape = rw (length-numbers f (at .state) (n .state)) (state-so (n .state) _ _ same (a .shape) (a .deep));
       }
 
-  pub counts-in : countsOf (captureIn f) ≡ countsAt f
-  unfolding countsOf captureIn
+  pub counts-in : countsOf (partsIn f) ≡ countsAt f
+  unfolding countsOf partsIn
   counts-in = simp length-numbers
 
 -- ---- which captures are written
@@ -209,11 +209,11 @@ module _ (c : Capture) where
       (record { code = h .below 7; registers = h .below 8; device = h .below 9; local = h .below 10; state = h .below 11; shape = g .shape })
 
   -- a capture of words that has a file
-  pub fits-filed : fits c ≡ true → Small (headOf c) → Small (partsOf c) → Filed c
+  pub fits-filed : fits c ≡ true → Small (headOf c) → Small (joined (c .parts)) → Filed c
   unfolding headerOf
   fits-filed e h w =
       let k = fits-known c e in
-      let rest = small-append (0 ∷ []) (partsOf c) (small-cons 0 [] (omega arith) small-nil) w in
+      let rest = small-append (0 ∷ []) (joined (c .parts)) (small-cons 0 [] (omega arith) small-nil) w in
       let from-device = small-cons _ _ (k .device) (small-cons _ _ (k .local) (small-cons _ _ (k .state) rest)) in
       let from-code = small-cons _ _ (k .code) (small-cons _ _ (k .registers) from-device) in
       record {

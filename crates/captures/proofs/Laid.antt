@@ -14,27 +14,27 @@ use Rattle.numbers.proofs.Numerals.{length-bytesOfAll}
 use Rattle.numbers.proofs.Behind.{behind}
 use Rattle.refusals.specs.Table.{Rule, broken}
 use Rattle.captures.specs.declared.answer.WriteAnswer.the-variants.{Wrote, Refused}
-use Rattle.captures.specs.Capture.{headerBytes, Capture, headerOf, partsOf, captureOf, stateFits, fits}
+use Rattle.captures.specs.Capture.{headerBytes, Capture, headerOf, joined, captureOf, stateFits, fits}
 use Rattle.captures.specs.Write.{wrote, writeOf}
 
 -- ---- which captures have a file
 
 pub record Fitting (c : Capture) : Type 0 where
-  pub code : length (c .code) < bound
-  pub registers : length (c .registers) < bound
-  pub device : length (c .device) < bound
-  pub local : length (c .local) < bound
-  pub state : length (c .state) < bound
-  pub shape : stateFits (c .state) ≡ true
+  pub code : length (c .parts .code) < bound
+  pub registers : length (c .parts .registers) < bound
+  pub device : length (c .parts .device) < bound
+  pub local : length (c .parts .local) < bound
+  pub state : length (c .parts .state) < bound
+  pub shape : stateFits (c .parts .state) ≡ true
 
 module _ (c : Capture) where
   -- the tests as the code makes them
-  pub fits-so : (s : Bool) → s ≡ stateFits (c .state)
-      → (((((ltb (length (c .code)) bound
-      && ltb (length (c .registers)) bound)
-      && ltb (length (c .device)) bound)
-      && ltb (length (c .local)) bound)
-      && ltb (length (c .state)) bound)
+  pub fits-so : (s : Bool) → s ≡ stateFits (c .parts .state)
+      → (((((ltb (length (c .parts .code)) bound
+      && ltb (length (c .parts .registers)) bound)
+      && ltb (length (c .parts .device)) bound)
+      && ltb (length (c .parts .local)) bound)
+      && ltb (length (c .parts .state)) bound)
       && s) ≡ fits c
   unfolding fits
   fits-so s e = rw e (simp and-assoc)
@@ -42,17 +42,17 @@ module _ (c : Capture) where
   pub fits-known : fits c ≡ true → Fitting c
   unfolding fits
   fits-known e =
-      let a = and-right (ltb (length (c .code)) bound) _ e in
-      let b = and-right (ltb (length (c .registers)) bound) _ a in
-      let d = and-right (ltb (length (c .device)) bound) _ b in
-      let l = and-right (ltb (length (c .local)) bound) _ d in
+      let a = and-right (ltb (length (c .parts .code)) bound) _ e in
+      let b = and-right (ltb (length (c .parts .registers)) bound) _ a in
+      let d = and-right (ltb (length (c .parts .device)) bound) _ b in
+      let l = and-right (ltb (length (c .parts .local)) bound) _ d in
       record {
         code = ltb-true _ _ (and-left _ _ e);
         registers = ltb-true _ _ (and-left _ _ a);
         device = ltb-true _ _ (and-left _ _ b);
         local = ltb-true _ _ (and-left _ _ d);
         state = ltb-true _ _ (and-left _ _ l);
-        shape = and-right (ltb (length (c .state)) bound) _ l;
+        shape = and-right (ltb (length (c .parts .state)) bound) _ l;
       }
 
   pub known-fits : Fitting c → fits c ≡ true
@@ -68,33 +68,33 @@ module _ (c : Capture) where
 
 -- the words of all parts
 abbrev wordCount : Capture → ℕ
-wordCount c = length (c .code) + length (c .registers) + length (c .device) + length (c .local) + length (c .state)
+wordCount c = length (c .parts .code) + length (c .parts .registers) + length (c .parts .device) + length (c .parts .local) + length (c .parts .state)
 
 pub length-capture : (c : Capture) → length (captureOf c) ≡ headerBytes + 4 * wordCount c
-unfolding captureOf headerOf partsOf
+unfolding captureOf headerOf joined
 length-capture c =
-    let b = length-bytesOfAll (headerOf c ++ partsOf c) in
-    let w = length-append (c .code) (c .registers ++ (c .device ++ (c .local ++ c .state))) in
-    let x = length-append (c .registers) (c .device ++ (c .local ++ c .state)) in
-    let y = length-append (c .device) (c .local ++ c .state) in
-    let z = length-append (c .local) (c .state) in
+    let b = length-bytesOfAll (headerOf c ++ joined (c .parts)) in
+    let w = length-append (c .parts .code) (c .parts .registers ++ (c .parts .device ++ (c .parts .local ++ c .parts .state))) in
+    let x = length-append (c .parts .registers) (c .parts .device ++ (c .parts .local ++ c .parts .state)) in
+    let y = length-append (c .parts .device) (c .parts .local ++ c .parts .state) in
+    let z = length-append (c .parts .local) (c .parts .state) in
     omega arith
 
 -- ---- part by part
 
 module _ (c : Capture) (o o₁ o₂ o₃ o₄ o₅ o₆ : List ℕ) (registers device local state : ℕ)
-    (r : registers ≡ headerBytes + 4 * length (c .code)) (d : device ≡ registers + 4 * length (c .registers))
-    (l : local ≡ device + 4 * length (c .device)) (s : state ≡ local + 4 * length (c .local)) where
-  pub laid : o₁ ≡ placed o 0 (bytesOfAll (headerOf c)) → o₂ ≡ placed o₁ headerBytes (bytesOfAll (c .code))
-      → o₃ ≡ placed o₂ registers (bytesOfAll (c .registers)) → o₄ ≡ placed o₃ device (bytesOfAll (c .device))
-      → o₅ ≡ placed o₄ local (bytesOfAll (c .local)) → o₆ ≡ placed o₅ state (bytesOfAll (c .state))
+    (r : registers ≡ headerBytes + 4 * length (c .parts .code)) (d : device ≡ registers + 4 * length (c .parts .registers))
+    (l : local ≡ device + 4 * length (c .parts .device)) (s : state ≡ local + 4 * length (c .parts .local)) where
+  pub laid : o₁ ≡ placed o 0 (bytesOfAll (headerOf c)) → o₂ ≡ placed o₁ headerBytes (bytesOfAll (c .parts .code))
+      → o₃ ≡ placed o₂ registers (bytesOfAll (c .parts .registers)) → o₄ ≡ placed o₃ device (bytesOfAll (c .parts .device))
+      → o₅ ≡ placed o₄ local (bytesOfAll (c .parts .local)) → o₆ ≡ placed o₅ state (bytesOfAll (c .parts .state))
       → o₆ ≡ placed o 0 (captureOf c)
-  unfolding captureOf headerOf partsOf
+  unfolding captureOf headerOf joined
   laid e1 e2 e3 e4 e5 e6 =
-      let h5 = behind (c .local) (c .state) o₄ o₅ o₆ local state s e5 e6 in
-      let h4 = behind (c .device) _ o₃ o₄ o₆ device local l e4 h5 in
-      let h3 = behind (c .registers) _ o₂ o₃ o₆ registers device d e3 h4 in
-      let h2 = behind (c .code) _ o₁ o₂ o₆ headerBytes registers r e2 h3 in
+      let h5 = behind (c .parts .local) (c .parts .state) o₄ o₅ o₆ local state s e5 e6 in
+      let h4 = behind (c .parts .device) _ o₃ o₄ o₆ device local l e4 h5 in
+      let h3 = behind (c .parts .registers) _ o₂ o₃ o₆ registers device d e3 h4 in
+      let h2 = behind (c .parts .code) _ o₁ o₂ o₆ headerBytes registers r e2 h3 in
       behind (headerOf c) _ o o₁ o₆ 0 headerBytes refl e1 h2
 
 -- ---- the answer

@@ -22,20 +22,20 @@ use Rattle.captures.specs.declared.answer.ReadAnswer.the-variants.{Read,
 use Rattle.captures.specs.declared.answer.WriteAnswer.the-variants.{Wrote, Refused}
 use Rattle.captures.specs.declared.testing.Verdict.{Verdict}
 use Rattle.captures.specs.declared.testing.Verdict.the-variants.{Fine, Broken}
-use Rattle.captures.specs.Capture.{Capture, headOf, partsOf, captureOf, fits, Filed}
+use Rattle.captures.specs.Capture.{Parts, countsOf, Capture, headOf, joined, captureOf, fits, Filed}
 use Rattle.captures.specs.Write.{Writing, writeOf}
-use Rattle.captures.specs.Read.{captureIn, verdictOf, Lent, roomsOf, countsOf, Within, filled, reading, judged, readOf}
+use Rattle.captures.specs.Read.{captureIn, verdictOf, Within, filled, reading, judged, readOf}
 use Rattle.captures.proofs.Laid.{write-so}
 use Rattle.captures.proofs.Accepted.{accepted, is-accepted, read-fine}
 use Rattle.captures.proofs.Files.{head-back, counts-back, capture-back, file-accepted}
 use Rattle.captures.proofs.Files.{file-back, file-filed, counts-in, filed-fits, fits-filed}
 
 -- THEOREM: the file of a capture is read as that capture, wherever there is room for it ...
-pub read-back : (c : Capture) → Filed c → (l : Lent) → Within (countsOf c) (roomsOf l)
-    → readOf (captureOf c) l ≡ reading (Read (c .head) (countsOf c)) (filled c l)
+pub read-back : (c : Capture) → Filed c → (l : Parts) → Within (countsOf (c .parts)) (countsOf l)
+    → readOf (captureOf c) l ≡ reading (Read (c .head) (countsOf (c .parts))) (filled (c .parts) l)
 read-back c g l w =
-    let v = is-accepted (captureOf c) (roomsOf l) (file-accepted c g (roomsOf l) w) in
-    let after = ap (λ (d : Capture). filled d l) (sym (capture-back c g)) in
+    let v = is-accepted (captureOf c) (countsOf l) (file-accepted c g (countsOf l) w) in
+    let after = ap (λ (d : Capture). filled (d .parts) l) (sym (capture-back c g)) in
     sym (read-fine (captureOf c) l Fine (sym v) _ _ _ refl after (sym (head-back c g)) (sym (counts-back c g)))
 
 -- the front of a buffer that a file was written to
@@ -47,9 +47,9 @@ written-front c o e h =
     ∙ take-at (captureOf c) (drop (length (captureOf c)) o) _ refl
 
 -- ... and that file is what stands in a buffer that it was written to
-pub write-read : (c : Capture) → Filed c → (o : List ℕ) → length (captureOf c) ≤ length o → (l : Lent) → Within (countsOf c) (roomsOf l)
+pub write-read : (c : Capture) → Filed c → (o : List ℕ) → length (captureOf c) ≤ length o → (l : Parts) → Within (countsOf (c .parts)) (countsOf l)
     → (writeOf c o .answer ≡ Wrote (length (captureOf c)))
-    × (readOf (take (length (captureOf c)) (writeOf c o .file)) l ≡ reading (Read (c .head) (countsOf c)) (filled c l))
+    × (readOf (take (length (captureOf c)) (writeOf c o .file)) l ≡ reading (Read (c .head) (countsOf (c .parts))) (filled (c .parts) l))
 write-read c g o h l w =
     let e = filed-fits c g in
     let answer = ap (λ (x : Writing). x .answer) (sym (write-so c o _ _ e refl h refl)) in
@@ -65,7 +65,7 @@ one-capture c d g h e = sym (capture-back c g) ∙ ap captureIn e ∙ capture-ba
 pub record Given (f : List ℕ) (rooms : Counts) : Type 0 where
   pub capture : Capture
   pub filed : Filed capture
-  pub within : Within (countsOf capture) rooms
+  pub within : Within (countsOf (capture .parts)) rooms
   pub file : captureOf capture ≡ f
 
 -- THEOREM: the files that break no rule are those of captures that there is room for ...
@@ -84,17 +84,17 @@ pub given-once : (f : List ℕ) (rooms : Counts) (g h : Given f rooms) → g .ca
 given-once f rooms g h = one-capture (g .capture) (h .capture) (g .filed) (h .filed) (g .file ∙ sym (h .file))
 
 -- ... and reading answers that capture
-read-tells : (v : Verdict) (f : List ℕ) (l : Lent) (h : Head) (n : Counts) → judged v f l .answer ≡ Read h n → v ≡ Fine
+read-tells : (v : Verdict) (f : List ℕ) (l : Parts) (h : Head) (n : Counts) → judged v f l .answer ≡ Read h n → v ≡ Fine
 unfolding judged
 read-tells Fine f l h n e = refl
 read-tells (Broken r p) f l h n e = absurd (let z : _≡_ {A = ℕ} 0 1 = cc in omega arith)
 
-pub read-given : (f : List ℕ) (l : Lent) (h : Head) (n : Counts) → Bytes f → readOf f l .answer ≡ Read h n → Given f (roomsOf l)
+pub read-given : (f : List ℕ) (l : Parts) (h : Head) (n : Counts) → Bytes f → readOf f l .answer ≡ Read h n → Given f (countsOf l)
 unfolding readOf
-read-given f l h n by e = accepted-given f (roomsOf l) by (read-tells (verdictOf f (roomsOf l)) f l h n e)
+read-given f l h n by e = accepted-given f (countsOf l) by (read-tells (verdictOf f (countsOf l)) f l h n e)
 
-pub given-read : (f : List ℕ) (l : Lent) (g : Given f (roomsOf l))
-    → readOf f l ≡ reading (Read (g .capture .head) (countsOf (g .capture))) (filled (g .capture) l)
+pub given-read : (f : List ℕ) (l : Parts) (g : Given f (countsOf l))
+    → readOf f l ≡ reading (Read (g .capture .head) (countsOf (g .capture .parts))) (filled (g .capture .parts) l)
 given-read f l g = ap (λ (x : List ℕ). readOf x l) (sym (g .file)) ∙ read-back (g .capture) (g .filed) l (g .within)
 
 -- ---- written files
@@ -118,8 +118,8 @@ write-tells c o n e =
     (true-or-false (fits c))
 
 -- THEOREM: what was written is the file of a capture, for numbers of four bytes
-pub written-given : (c : Capture) (o : List ℕ) (n : ℕ) → Small (headOf c) → Small (partsOf c) → writeOf c o .answer ≡ Wrote n
-    → Given (take n (writeOf c o .file)) (countsOf c)
+pub written-given : (c : Capture) (o : List ℕ) (n : ℕ) → Small (headOf c) → Small (joined (c .parts)) → writeOf c o .answer ≡ Wrote n
+    → Given (take n (writeOf c o .file)) (countsOf (c .parts))
 written-given c o n h w e =
     let t = write-tells c o n e in
     record {
@@ -132,14 +132,14 @@ written-given c o n h w e =
 -- ---- refusals
 
 -- a file that is refused changes nothing
-refusal-keeps : (v : Verdict) (f : List ℕ) (l : Lent) (r : Rule) (p : ℕ) → judged v f l .answer ≡ Unreadable r p → judged v f l .after ≡ l
+refusal-keeps : (v : Verdict) (f : List ℕ) (l : Parts) (r : Rule) (p : ℕ) → judged v f l .answer ≡ Unreadable r p → judged v f l .after ≡ l
 unfolding judged
 refusal-keeps Fine f l r p e = absurd (let z : _≡_ {A = ℕ} 0 1 = cc in omega arith)
 refusal-keeps (Broken s q) f l r p e = refl
 
-pub read-refused-keeps : (f : List ℕ) (l : Lent) (r : Rule) (p : ℕ) → readOf f l .answer ≡ Unreadable r p → readOf f l .after ≡ l
+pub read-refused-keeps : (f : List ℕ) (l : Parts) (r : Rule) (p : ℕ) → readOf f l .answer ≡ Unreadable r p → readOf f l .after ≡ l
 unfolding readOf
-read-refused-keeps f l r p e = refusal-keeps (verdictOf f (roomsOf l)) f l r p e
+read-refused-keeps f l r p e = refusal-keeps (verdictOf f (countsOf l)) f l r p e
 
 -- nor does a capture that isn't written
 pub write-refused-keeps : (c : Capture) (o : List ℕ) (r : Refusal) → writeOf c o .answer ≡ Refused r → writeOf c o .file ≡ o

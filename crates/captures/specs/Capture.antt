@@ -7,6 +7,7 @@ use lib.Dec.{ltb, eqb}
 use lib.ListN.{length, getD}
 use Rattle.numbers.specs.Numbers.{bound, bytesOfAll, Small}
 use Rattle.captures.specs.declared.answer.Head.{Head}
+use Rattle.captures.specs.declared.answer.Counts.{Counts}
 
 -- ---- what is fixed
 
@@ -80,19 +81,36 @@ stateSize depth = hotWords + blockWords * depth
 
 -- ---- a capture and its file
 
--- kernel number and settings, and the words of code, registers, device memory, local memory and state
-pub record Capture : Type 0 where
-  pub head : Head
+-- the words of code, registers, device memory, local memory and state
+pub record Parts : Type 0 where
   pub code : List ℕ
   pub registers : List ℕ
   pub device : List ℕ
   pub local : List ℕ
   pub state : List ℕ
 
+abbrev pub inParts : List ℕ → List ℕ → List ℕ → List ℕ → List ℕ → Parts
+inParts code registers device local state = record { code = code; registers = registers; device = device; local = local; state = state }
+
+-- how many words there are of each part
+unfoldable pub countsOf : Parts → Counts
+countsOf p =
+    record {
+      code = length (p .code);
+      registers = length (p .registers);
+      device = length (p .device);
+      local = length (p .local);
+      state = length (p .state);
+    }
+
+-- kernel number and settings, and the words of each part
+pub record Capture : Type 0 where
+  pub head : Head
+  pub parts : Parts
+
 -- the capture of these parts
 abbrev pub captured : Head → List ℕ → List ℕ → List ℕ → List ℕ → List ℕ → Capture
-captured head code registers device local state =
-    record { head = head; code = code; registers = registers; device = device; local = local; state = state }
+captured head code registers device local state = record { head = head; parts = inParts code registers device local state }
 
 -- kernel number and settings
 abbrev pub headOf : Capture → List ℕ
@@ -102,15 +120,15 @@ headOf c = c .head .kernel ∷ c .head .width ∷ c .head .registers ∷ c .head
 unfoldable pub headerOf : Capture → List ℕ
 headerOf c =
     mark ∷ edition ∷ (headOf c
-    ++ (length (c .code) ∷ length (c .registers) ∷ length (c .device) ∷ length (c .local) ∷ length (c .state) ∷ 0 ∷ []))
+    ++ (length (c .parts .code) ∷ length (c .parts .registers) ∷ length (c .parts .device) ∷ length (c .parts .local) ∷ length (c .parts .state) ∷ 0 ∷ []))
 
 -- the words of each part, in that order
-unfoldable pub partsOf : Capture → List ℕ
-partsOf c = c .code ++ (c .registers ++ (c .device ++ (c .local ++ c .state)))
+unfoldable pub joined : Parts → List ℕ
+joined p = p .code ++ (p .registers ++ (p .device ++ (p .local ++ p .state)))
 
 -- the file of a capture
 unfoldable pub captureOf : Capture → List ℕ
-captureOf c = bytesOfAll (headerOf c ++ partsOf c)
+captureOf c = bytesOfAll (headerOf c ++ joined (c .parts))
 
 -- ---- which captures have a file
 
@@ -121,14 +139,14 @@ stateFits s = eqb (length s) 0 || eqb (length s) (stateSize (getD s depthWord 0)
 -- each count is a number of four bytes, and the state's words are a state's
 unfoldable pub fits : Capture → Bool
 fits c =
-    ltb (length (c .code)) bound
-    && (ltb (length (c .registers)) bound
-    && (ltb (length (c .device)) bound
-    && (ltb (length (c .local)) bound
-    && (ltb (length (c .state)) bound
-    && stateFits (c .state)))))
+    ltb (length (c .parts .code)) bound
+    && (ltb (length (c .parts .registers)) bound
+    && (ltb (length (c .parts .device)) bound
+    && (ltb (length (c .parts .local)) bound
+    && (ltb (length (c .parts .state)) bound
+    && stateFits (c .parts .state)))))
 
 -- a capture that a file is of: all its numbers have four bytes, and its state's words are a state's
 pub record Filed (c : Capture) : Type 0 where
-  pub small : Small (headerOf c ++ partsOf c)
-  pub shape : stateFits (c .state) ≡ true
+  pub small : Small (headerOf c ++ joined (c .parts))
+  pub shape : stateFits (c .parts .state) ≡ true

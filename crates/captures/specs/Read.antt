@@ -16,7 +16,7 @@ use Rattle.captures.specs.declared.testing.Verdict.the-variants.{Fine, B
 use Rattle.captures.specs.declared.testing.Places.{Places}
 use Rattle.captures.specs.Capture.{mark, edition, markPlace, editionPlace, kernelPlace, widthPlace, registersPlace, lanesPlace, budgetPlace}
 use Rattle.captures.specs.Capture.{codeCount, registersCount, deviceCount, localCount, stateCount, sixthCount, headerBytes}
-use Rattle.captures.specs.Capture.{hotWords, blockWords, depthWord, stateSize, Capture}
+use Rattle.captures.specs.Capture.{hotWords, blockWords, depthWord, stateSize, Parts, inParts, countsOf, Capture}
 
 -- ---- what a file holds
 
@@ -51,19 +51,22 @@ placesOf n =
     let state = local + 4 * n .local in
     record { registers = registers; device = device; local = local; state = state; depth = state + 4 * depthWord; end = state + 4 * n .state }
 
--- the capture that a file is of
-unfoldable pub captureIn : List ℕ → Capture
-captureIn f =
+-- the words of each part in a file
+unfoldable pub partsIn : List ℕ → Parts
+partsIn f =
     let n = countsAt f in
     let at = placesOf n in
     record {
-      head = headAt f;
       code = numbersAt f headerBytes (n .code);
       registers = numbersAt f (at .registers) (n .registers);
       device = numbersAt f (at .device) (n .device);
       local = numbersAt f (at .local) (n .local);
       state = numbersAt f (at .state) (n .state);
     }
+
+-- the capture that a file is of
+abbrev pub captureIn : List ℕ → Capture
+captureIn f = record { head = headAt f; parts = partsIn f }
 
 -- ---- the tests
 
@@ -108,39 +111,6 @@ verdictOf f rooms = testState (testRooms (testHead f) (countsAt f) rooms) f
 
 -- ---- the answer
 
--- the lent buffers
-pub record Lent : Type 0 where
-  pub code : List ℕ
-  pub registers : List ℕ
-  pub device : List ℕ
-  pub local : List ℕ
-  pub state : List ℕ
-
-abbrev pub lent : List ℕ → List ℕ → List ℕ → List ℕ → List ℕ → Lent
-lent code registers device local state = record { code = code; registers = registers; device = device; local = local; state = state }
-
--- the room that there is in each buffer
-unfoldable pub roomsOf : Lent → Counts
-roomsOf l =
-    record {
-      code = length (l .code);
-      registers = length (l .registers);
-      device = length (l .device);
-      local = length (l .local);
-      state = length (l .state);
-    }
-
--- how many words a capture has of each part
-unfoldable pub countsOf : Capture → Counts
-countsOf c =
-    record {
-      code = length (c .code);
-      registers = length (c .registers);
-      device = length (c .device);
-      local = length (c .local);
-      state = length (c .state);
-    }
-
 -- there is room for each count
 pub record Within (n rooms : Counts) : Type 0 where
   pub code : n .code ≤ rooms .code
@@ -149,24 +119,29 @@ pub record Within (n rooms : Counts) : Type 0 where
   pub local : n .local ≤ rooms .local
   pub state : n .state ≤ rooms .state
 
--- the words of a capture at the start of each buffer, the rest of each as it was
-unfoldable pub filled : Capture → Lent → Lent
-filled c l =
-    lent (placed (l .code) 0 (c .code)) (placed (l .registers) 0 (c .registers)) (placed (l .device) 0 (c .device)) (placed (l .local) 0 (c .local)) (placed (l .state) 0 (c .state))
+-- words at the start of each lent buffer, the rest of each as it was
+unfoldable pub filled : Parts → Parts → Parts
+filled p l =
+    inParts
+    (placed (l .code) 0 (p .code))
+    (placed (l .registers) 0 (p .registers))
+    (placed (l .device) 0 (p .device))
+    (placed (l .local) 0 (p .local))
+    (placed (l .state) 0 (p .state))
 
 -- an answer, and what the lent buffers hold after
 pub record Reading : Type 0 where
   pub answer : ReadAnswer
-  pub after : Lent
+  pub after : Parts
 
-abbrev pub reading : ReadAnswer → Lent → Reading
+abbrev pub reading : ReadAnswer → Parts → Reading
 reading r l = record { answer = r; after = l }
 
 -- by the verdict: what the file holds, or the broken rule, which changes nothing
-unfoldable pub judged : Verdict → List ℕ → Lent → Reading
-judged Fine f l = reading (Read (headAt f) (countsAt f)) (filled (captureIn f) l)
+unfoldable pub judged : Verdict → List ℕ → Parts → Reading
+judged Fine f l = reading (Read (headAt f) (countsAt f)) (filled (partsIn f) l)
 judged (Broken rule place) f l = reading (Unreadable rule place) l
 
 -- what reading answers and leaves
-unfoldable pub readOf : List ℕ → Lent → Reading
-readOf f l = judged (verdictOf f (roomsOf l)) f l
+unfoldable pub readOf : List ℕ → Parts → Reading
+readOf f l = judged (verdictOf f (countsOf l)) f l

@@ -13,7 +13,8 @@ ghost use Prim.Native.Nat.{_≤_};
 ghost use lib.ListN.{length};
 ghost use Rattle.numbers.specs.Numbers.{numbersAt};
 ghost use Rattle.numbers.specs.Placed.{placed};
-ghost use Rattle.captures.specs.Read.{captureIn, verdictOf, lent, roomsOf, filled, reading, readOf};
+ghost use Rattle.captures.specs.Capture.{inParts, countsOf};
+ghost use Rattle.captures.specs.Read.{partsIn, verdictOf, filled, reading, readOf};
 
 // The n numbers of a file from `at` on, at the start of `out`.
 fn take_words(file: &[u8], at: usize, n: usize, out: &mut [u32])
@@ -32,8 +33,8 @@ fn take_parts(
     local: &mut [u32],
     state: &mut [u32],
 )
-    requires { ⌜ verdictOf (now file) (roomsOf (lent (now code) (now registers) (now device) (now local) (now state))) ≡ Verdict.Fine ⌝ }
-    ensures { λ _. ⌜ lent (now (code .exit)) (now (registers .exit)) (now (device .exit)) (now (local .exit)) (now (state .exit)) ≡ filled (captureIn (now (file .entry))) (lent (now (code .entry)) (now (registers .entry)) (now (device .entry)) (now (local .entry)) (now (state .entry))) ⌝ }
+    requires { ⌜ verdictOf (now file) (countsOf (inParts (now code) (now registers) (now device) (now local) (now state))) ≡ Verdict.Fine ⌝ }
+    ensures { λ _. ⌜ inParts (now (code .exit)) (now (registers .exit)) (now (device .exit)) (now (local .exit)) (now (state .exit)) ≡ filled (partsIn (now (file .entry))) (inParts (now (code .entry)) (now (registers .entry)) (now (device .entry)) (now (local .entry)) (now (state .entry))) ⌝ }
 {
     let n = counts_of(file);
     let at = places_of(file);
@@ -55,7 +56,7 @@ pub fn read(
     local: &mut [u32],
     state: &mut [u32],
 ) -> ReadAnswer
-    ensures { λ r. ⌜ reading r (lent (now (code .exit)) (now (registers .exit)) (now (device .exit)) (now (local .exit)) (now (state .exit))) ≡ readOf (now (file .entry)) (lent (now (code .entry)) (now (registers .entry)) (now (device .entry)) (now (local .entry)) (now (state .entry))) ⌝ }
+    ensures { λ r. ⌜ reading r (inParts (now (code .exit)) (now (registers .exit)) (now (device .exit)) (now (local .exit)) (now (state .exit))) ≡ readOf (now (file .entry)) (inParts (now (code .entry)) (now (registers .entry)) (now (device .entry)) (now (local .entry)) (now (state .entry))) ⌝ }
 {
     let rooms = Counts {
         code: code.len(),

@@ -1,23 +1,23 @@
 -- By the verdict: the first broken rule, or the words taken.
 use mathlib.Core.Path.{sym, _∙_}
-use Rattle.captures.specs.Read.{roomsOf}
+use Rattle.captures.specs.Capture.{countsOf}
 use Rattle.captures.proofs.Accepted.{read-broken, read-fine}
 use borrow.Author.Needs.{needs}
 use Rattle.captures.proofs.reading.read.Statement.{statement}
 use Rattle.captures.proofs.reading.read.Tie as tie
 
 take-parts-requires : tie.Need-take-parts-requires
-unfolding roomsOf
+unfolding countsOf
 take-parts-requires c κs =
     let told = c .before .before .before .before .before in
     sym (told .before .before .verdict-of .ensures) ∙ told .enum-told .given .1
 
 returns : tie.Need-returns
-unfolding roomsOf
+unfolding countsOf
 returns c = read-broken _ _ _ (c .before .before .before .verdict-of .ensures) _ _ (c .before .rule .given .1)
 
 returns-2 : tie.Need-returns-2
-unfolding roomsOf
+unfolding countsOf
 returns-2 c =
     let words = c .before .before .before .before .before .before .before .before .before .before .before .before in
     let told = words .before .before .before .before .before .before in

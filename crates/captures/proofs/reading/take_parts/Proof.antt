@@ -1,5 +1,5 @@
 -- There is room for the words of a file that breaks no rule.
-use Rattle.captures.specs.Read.{Lent, lent, roomsOf}
+use Rattle.captures.specs.Capture.{Parts, inParts, countsOf}
 use Rattle.captures.proofs.Accepted.{room-for, taken}
 use borrow.Author.Needs.{needs}
 use Rattle.captures.proofs.reading.take_parts.Statement.{statement}
@@ -23,27 +23,27 @@ abbrev start : tie.After-places-of → tie.Start
 start z = z .before .before .before .before .before .before .before .before
 
 -- the buffers that are lent
-abbrev buffers : tie.Start → Lent
-buffers z = let a = z .args in lent (a .code .now) (a .registers .now) (a .device .now) (a .local .now) (a .state .now)
+abbrev buffers : tie.Start → Parts
+buffers z = let a = z .args in inParts (a .code .now) (a .registers .now) (a .device .now) (a .local .now) (a .state .now)
 
 take-words-requires : tie.Need-take-words-requires
-unfolding roomsOf
+unfolding countsOf
 take-words-requires c κs = let at = c .before in room-for _ (buffers (start at)) (start at .pre) _ (at .before .counts-of .ensures) .code
 
 take-words-requires-2 : tie.Need-take-words-requires-2
-unfolding roomsOf
+unfolding countsOf
 take-words-requires-2 c κs = let at = from-registers c in room-for _ (buffers (start at)) (start at .pre) _ (at .before .counts-of .ensures) .registers
 
 take-words-requires-3 : tie.Need-take-words-requires-3
-unfolding roomsOf
+unfolding countsOf
 take-words-requires-3 c κs = let at = from-device c in room-for _ (buffers (start at)) (start at .pre) _ (at .before .counts-of .ensures) .device
 
 take-words-requires-4 : tie.Need-take-words-requires-4
-unfolding roomsOf
+unfolding countsOf
 take-words-requires-4 c κs = let at = from-local c in room-for _ (buffers (start at)) (start at .pre) _ (at .before .counts-of .ensures) .local
 
 take-words-requires-5 : tie.Need-take-words-requires-5
-unfolding roomsOf
+unfolding countsOf
 take-words-requires-5 c κs = let at = from-state c in room-for _ (buffers (start at)) (start at .pre) _ (at .before .counts-of .ensures) .state
 
 returns : tie.Need-returns
