@@ -8,7 +8,8 @@ use mathlib.Core.List.{List, []}
 use lib.Dec.{eqb}
 use borrow.Author.Tests.{eqb-true}
 use Rattle.blocks.specs.Code.{Code}
-use Rattle.blocks.specs.Scan.{Open, Next, over, go, step}
+use Rattle.blocks.specs.Open.{Open}
+use Rattle.blocks.specs.Scan.{Next, over, go, step}
 use Rattle.blocks.specs.OpenAt.{Found, nowhere, there, seek, walk, openAt}
 use Rattle.blocks.proofs.Widths.{Fits}
 use Rattle.blocks.proofs.Passes.{Moves, step-moves}

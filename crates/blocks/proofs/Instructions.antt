@@ -15,7 +15,8 @@ use Rattle.blocks.specs.declared.item.Reading.{Reading}
 use Rattle.blocks.specs.declared.structure.Checked.the-variants.{Fine}
 use Rattle.blocks.specs.Item.{itemOf, seen, itemAt}
 use Rattle.blocks.specs.Code.{Code, codeOf}
-use Rattle.blocks.specs.Scan.{Open, checkOf}
+use Rattle.blocks.specs.Open.{Open}
+use Rattle.blocks.specs.Scan.{checkOf}
 use Rattle.blocks.specs.OpenAt.{there, openAt}
 use Rattle.blocks.proofs.Items.{seen-whole}
 use Rattle.blocks.proofs.Widths.{read-wide, code-fits}

@@ -10,7 +10,8 @@ use Rattle.ground.proofs.Bools.{never}
 use Rattle.blocks.specs.declared.places.Stack.{Stack}
 use Rattle.blocks.specs.declared.places.Moved.{Moved}
 use Rattle.blocks.specs.Code.{Code}
-use Rattle.blocks.specs.Scan.{Open, Next, over, go, step, carry}
+use Rattle.blocks.specs.Open.{Open}
+use Rattle.blocks.specs.Scan.{Next, over, go, step, carry}
 use Rattle.blocks.specs.OpenAt.{Found, nowhere, there, seek, walk, openAt, shown}
 use Rattle.blocks.specs.Stacks.{Holds, Advances}
 use Rattle.blocks.proofs.Widths.{Fits}

@@ -1,4 +1,4 @@
--- A step of the proofs: nothing that is said to the reader rests on this file.
+-- A test: theorems hold it to the page's words, as `Nesting` has them.
 -- Code as the rules of blocks see it.
 use Prim.Native.Nat.{ℕ}
 use mathlib.Core.List.{List}

@@ -1,4 +1,5 @@
 pub mod Item
+pub mod Open
 pub mod Code
 pub mod Scan
 pub mod Nesting

@@ -1,4 +1,4 @@
--- A step of the proofs: nothing that is said to the reader rests on this file.
+-- A test: theorems hold it to the page's words, as `fits` `Opens` has them.
 -- Which blocks are open at a place, and whether an instruction starts or the code ends there.
 use Prim.Native.Nat.{ℕ, zero, suc, _+_}
 use mathlib.Core.Bool.{true, false, cond}
@@ -8,7 +8,8 @@ use lib.Dec.{eqb}
 use Rattle.blocks.specs.declared.places.Stack.{Stack}
 use Rattle.blocks.specs.declared.places.OpenAt.{OpenAt}
 use Rattle.blocks.specs.Code.{Code}
-use Rattle.blocks.specs.Scan.{nesting, Part, before, after, looping, Open, open-at, carry, step}
+use Rattle.blocks.specs.Open.{nesting, Part, before, after, looping, Open, open-at}
+use Rattle.blocks.specs.Scan.{carry, step}
 
 pub data Found : Type 0 where
   nowhere : Found
@@ -26,18 +27,6 @@ walk code place at o = seek code place (code .size) at o
 -- the open blocks at a place, innermost first; nowhere if the pass does not come by it: a second word, past the end, or behind a refusal
 abbrev pub openAt : Code → ℕ → Found
 openAt code place = walk code place 0 []
-
--- the page's number of a part: 1 before ELSE, 2 after, 3 loop
-abbrev pub partNumber : Part → ℕ
-partNumber before = 1
-partNumber after = 2
-partNumber looping = 3
-
-abbrev pub partNumberOf : Open → ℕ
-partNumberOf (open-at part p) = partNumber part
-
-abbrev pub openerOf : Open → ℕ
-openerOf (open-at part p) = p
 
 -- an open block as a state has it: its part's number and its opener
 abbrev pub numbered : Open → ℕ × ℕ

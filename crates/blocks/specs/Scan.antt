@@ -1,4 +1,4 @@
--- A step of the proofs, but for `nesting`, `Part`, `Open` and `inLoop`, which `Nesting` uses.
+-- A test: theorems hold it to the page's words, as `Nesting` has them.
 -- The check of the code, in one pass with the list of open blocks, innermost first.
 -- Instruction by instruction it meets refusals 4 to 7 of the instruction itself, then 8 and 9, and at the end of the code 10.
 use Prim.Native.Nat.{ℕ, zero, suc, _+_}
@@ -11,20 +11,7 @@ use Rattle.blocks.specs.declared.item.Item.{Item}
 use Rattle.blocks.specs.declared.structure.Checked.{Checked}
 use Rattle.blocks.specs.declared.structure.Checked.the-variants.{Fine, Refused}
 use Rattle.blocks.specs.Code.{Code}
-
--- the room for nesting
-abbrev pub nesting : ℕ
-nesting = 32
-
--- the part of a block that a place stands in: an IF before its ELSE, an IF after it, a loop
-pub data Part : Type 0 where
-  before : Part
-  after : Part
-  looping : Part
-
--- an open block: its part and the place of its opener
-pub data Open : Type 0 where
-  open-at : Part → ℕ → Open
+use Rattle.blocks.specs.Open.{nesting, Part, before, after, looping, Open, open-at, inLoop}
 
 -- what comes of one instruction: the pass is over, or goes on at a place with these blocks open
 pub data Next : Type 0 where
@@ -59,13 +46,6 @@ endsLoop at [] = stray at
 endsLoop at (open-at before p ∷ o) = stray at
 endsLoop at (open-at after p ∷ o) = stray at
 endsLoop at (open-at looping p ∷ o) = go (at + 1) o
-
--- is there a loop among the open blocks?
-unfoldable pub inLoop : List Open → Bool
-inLoop [] = false
-inLoop (open-at before p ∷ o) = inLoop o
-inLoop (open-at after p ∷ o) = inLoop o
-inLoop (open-at looping p ∷ o) = true
 
 -- BREAK and CONTINUE stand inside some loop, at any depth of IF
 abbrev pub jumps : ℕ → List Open → Next

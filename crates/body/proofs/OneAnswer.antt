@@ -5,9 +5,8 @@ use mathlib.Core.List.{List}
 use lib.ListN.{getD}
 use Rattle.lanes.specs.declared.said.Fault.{Fault}
 use Rattle.body.specs.declared.BodyAnswer.{BodyAnswer}
-use Rattle.body.specs.Body.{partsAt}
+use Rattle.body.specs.Body.{partsAt, noFault}
 use Rattle.body.specs.Layout.{bodyAnswer}
-use Rattle.body.specs.Places.{noFault}
 
 pub body-length-once : (bytes : List ℕ) (at : ℕ) (r q : BodyAnswer) → r ≡ bodyAnswer bytes at → q ≡ bodyAnswer bytes at → r ≡ q
 body-length-once bytes at r q a b = a ∙ sym b

@@ -14,9 +14,9 @@ use Rattle.formats.proofs.Each.{getD-each}
 use Rattle.formats.proofs.Words.{four-value}
 use Rattle.lanes.specs.declared.said.Block.{Block}
 use Rattle.lanes.specs.declared.said.Fault.{Fault}
-use Rattle.body.specs.Body.{Parts, setBytes, faultFormat, blockFormat, partsAt}
+use Rattle.body.specs.Body.{Parts, setBytes, faultFormat, blockFormat, partsAt, noFault}
 use Rattle.body.specs.Layout.{lastPlace, beforePart, loopPart, blockFits}
-use Rattle.body.specs.Places.{kindsPlace, countAt, depthAt, faultAt, blockAt, noFault}
+use Rattle.body.specs.Places.{kindsPlace, countAt, depthAt, faultAt, blockAt}
 use Rattle.body.proofs.Places.{faults-place, count-faults, depth-blocks}
 
 module _ (s : List ℕ) where

@@ -19,7 +19,7 @@ use Rattle.lanes.proofs.Bits.{set-ext, bit-and, bit-or, bit-zero}
 use Rattle.lanes.specs.declared.said.Fault.{Fault}
 use Rattle.body.specs.Layout.{Kinds, mostKinds, kindLists, apart, faultsFit}
 use Rattle.body.specs.Spelling.{digit, spelled, spells, mayPrecede, together}
-use Rattle.body.specs.Places.{noFault}
+use Rattle.body.specs.Body.{noFault}
 use Rattle.body.proofs.Starts.{page-count}
 
 -- ---- one number for one list

@@ -1,3 +1,4 @@
+-- A step of the proofs: nothing that is said to the reader rests on this file.
 -- Where the fields of a body stand, the sets of lanes w bytes long: what code goes by.
 use Prim.Native.Nat.{ℕ, _+_, _*_}
 use mathlib.Core.List.{List}
@@ -45,7 +46,3 @@ faultAt w s p = readAt (faultFormat w) s p
 
 abbrev pub blockAt : ℕ → List ℕ → ℕ → Block
 blockAt w s p = readAt (blockFormat w) s p
-
--- what is read where there are not so many fault kinds: kind 0 with no lanes
-abbrev pub noFault : Fault
-noFault = record { kind = 0; lanes = 0 }

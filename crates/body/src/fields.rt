@@ -3,8 +3,7 @@ use lanes::said::Fault;
 use numbers::get;
 ghost use mathlib.Core.Path.{_≡_};
 ghost use lib.ListN.{length, getD};
-ghost use Rattle.body.specs.Body.{Parts, partsAt};
-ghost use Rattle.body.specs.Places.{noFault};
+ghost use Rattle.body.specs.Body.{Parts, partsAt, noFault};
 
 // Where kernel number, place, count of fault kinds and the kinds stand; behind these two sets, then the depth.
 pub const KERNEL_PLACE: usize = 0;

@@ -8,6 +8,7 @@ use Rattle.ground.specs.Lists.{tabulate, inOrder}
 use Rattle.lanes.specs.Sets.{bit, has, without, first, only, setOf}
 use Rattle.words.specs.Fetching.{fetchAt}
 use Rattle.blocks.specs.Item.{itemAt}
+use Rattle.blocks.specs.Open.{inLoop}
 use Rattle.blocks.specs.Scan as blocks
 use Rattle.blocks.specs.OpenAt as places
 use Rattle.wave.specs.Control as control
@@ -49,11 +50,11 @@ brokenAndHalted =
 -- T12's last step but one, ENDIF: lanes 0 to 3 entered, 2 and 3 left, and the last step, ADD, has 0 and 1 active
 pub if-closes : Closes (record { part = 2; opener = 5; entered = 15; aside = 3; again = 0; left = 12 }) (drop 1 (launchedAt 4 t12 .steps))
     × (activeAt (launchedAt 4 t12 .steps) ≡ 3)
-unfolding tabulate inOrder bit has without first only setOf fetchAt itemAt blocks.inLoop blocks.react blocks.ended blocks.step blocks.scan blocks.run places.walk places.seek control.controlRule control.faultLanes slot byLane gatherOf writeLanes changesOf resultsOf predicateOf faultLanes faultsOf afterOf carriedOf stepOf runOf launchOf stepsOf unclosed blocksIn loopsIn turnedIn asideOf againOf leftOf marksOf
+unfolding tabulate inOrder bit has without first only setOf fetchAt itemAt inLoop blocks.react blocks.ended blocks.step blocks.scan blocks.run places.walk places.seek control.controlRule control.faultLanes slot byLane gatherOf writeLanes changesOf resultsOf predicateOf faultLanes faultsOf afterOf carriedOf stepOf runOf launchOf stepsOf unclosed blocksIn loopsIn turnedIn asideOf againOf leftOf marksOf
 if-closes = ((refl, refl), refl)
 
 -- the last step, ENDLOOP: lanes 0 to 2 entered, 0 halted, and 1 and 2, which broke the loop, are active at the end
 pub loop-closes : Closes (record { part = 3; opener = 7; entered = 7; aside = 6; again = 0; left = 1 }) (launchedAt 3 brokenAndHalted .steps)
     × (launchedAt 3 brokenAndHalted .answer .state .hot .active ≡ 6)
-unfolding tabulate inOrder bit has without first only setOf fetchAt itemAt blocks.inLoop blocks.react blocks.ended blocks.step blocks.scan blocks.run places.walk places.seek control.controlRule control.faultLanes slot byLane gatherOf writeLanes changesOf resultsOf predicateOf faultLanes faultsOf afterOf carriedOf stepOf runOf launchOf stepsOf unclosed blocksIn loopsIn turnedIn asideOf againOf leftOf marksOf
+unfolding tabulate inOrder bit has without first only setOf fetchAt itemAt inLoop blocks.react blocks.ended blocks.step blocks.scan blocks.run places.walk places.seek control.controlRule control.faultLanes slot byLane gatherOf writeLanes changesOf resultsOf predicateOf faultLanes faultsOf afterOf carriedOf stepOf runOf launchOf stepsOf unclosed blocksIn loopsIn turnedIn asideOf againOf leftOf marksOf
 loop-closes = ((refl, refl), refl)

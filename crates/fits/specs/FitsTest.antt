@@ -1,4 +1,4 @@
--- A step of the proofs: nothing that is said to the reader rests on this file.
+-- A test: theorems hold it to the page's words, as `Opens` has them.
 -- The test of whether a handed-in state fits. That of its sets is on whole sets: a walk outward over the open blocks, with the lanes that
 -- are active or set aside inside.
 use mathlib.Core.Bool.{Bool, true, false, _&&_, _||_}
@@ -10,8 +10,8 @@ use lib.Dec.{eqb, leb}
 use Rattle.lanes.specs.Sets.{first, widest}
 use Rattle.blocks.specs.declared.item.Reading.{Reading}
 use Rattle.blocks.specs.Code.{codeOf}
-use Rattle.blocks.specs.Scan.{nesting, Open}
-use Rattle.blocks.specs.OpenAt.{Found, nowhere, there, openAt, partNumberOf, openerOf}
+use Rattle.blocks.specs.Open.{nesting, Open, partNumberOf, openerOf}
+use Rattle.blocks.specs.OpenAt.{Found, nowhere, there, openAt}
 use Rattle.lanes.specs.declared.said.Block.{Block}
 use Rattle.wave.specs.declared.state.Hot.{Hot}
 use Rattle.wave.specs.Layout.{blockNumbers}

@@ -8,7 +8,7 @@ use lib.ListN.{length}
 use Rattle.instructions.specs.declared.instr.Instr.{Instr}
 use Rattle.words.specs.Rules.{Stands}
 use Rattle.blocks.specs.declared.item.Reading.{Reading}
-use Rattle.blocks.specs.Scan.{Open}
+use Rattle.blocks.specs.Open.{Open}
 use Rattle.blocks.specs.Nesting.{Opened}
 use Rattle.lanes.specs.declared.said.Block.{Block}
 use Rattle.wave.specs.declared.state.Hot.{Hot}

@@ -13,7 +13,7 @@ use wave::state::PATH_NUMBERS;
 use wave::state::depth_of;
 ghost use mathlib.Core.Path.{_≡_};
 ghost use Prim.Native.Nat.{_<_};
-ghost use Rattle.blocks.specs.Scan.{nesting};
+ghost use Rattle.blocks.specs.Open.{nesting};
 ghost use Rattle.wave.specs.Layout.{blockAt};
 ghost use Rattle.wave.specs.Wave.{waveOf, predsOf};
 ghost use Rattle.fits.specs.FitsTest as test;

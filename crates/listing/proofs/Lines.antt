@@ -15,9 +15,8 @@ use Rattle.ground.specs.Tests.{allOf}
 use Rattle.numbers.specs.Placed.{placed, Puts}
 use Rattle.numbers.proofs.Placing.{placed-append, placed-nil, placed-front, length-placed, puts-join, puts-same, puts-kept}
 use Rattle.lanes.specs.declared.said.Fault.{Fault}
-use Rattle.body.specs.Body.{setBytes, partsAt}
+use Rattle.body.specs.Body.{setBytes, partsAt, noFault}
 use Rattle.body.specs.Layout.{kindLists, isBody}
-use Rattle.body.specs.Places.{noFault}
 use Rattle.body.proofs.Starts.{body-starts, page-count}
 use Rattle.dayfile.specs.Day.{mostRecords}
 use Rattle.ground.proofs.Tests.{true-or-false, all-at}

@@ -18,6 +18,7 @@ use Rattle.blocks.specs.declared.structure.Checked.the-variants.{Fine}
 use Rattle.blocks.specs.Item.{itemAt}
 use Rattle.blocks.specs.Code.{codeOf}
 use Rattle.blocks.specs.Scan.{checkOf}
+use Rattle.blocks.specs.Open.{inLoop}
 use Rattle.blocks.specs.Scan as blocks
 use Rattle.wave.specs.Control as control
 use Rattle.faulting.specs.Causes.{faultLanes}
@@ -134,7 +135,7 @@ bodies = (refl, refl)
 
 -- THE MARKED TABLE
 pub marked : Each table
-unfolding flatMap tabulate inOrder bit has without first only setOf fetchAt itemAt blocks.inLoop blocks.react blocks.ended blocks.step blocks.scan blocks.run control.controlRule control.faultLanes slot byLane gatherOf writeLanes changesOf resultsOf predicateOf faultLanes faultsOf afterOf carriedOf stepOf runOf blocksOf partsOf outcomeKey keyOf
+unfolding flatMap tabulate inOrder bit has without first only setOf fetchAt itemAt inLoop blocks.react blocks.ended blocks.step blocks.scan blocks.run control.controlRule control.faultLanes slot byLane gatherOf writeLanes changesOf resultsOf predicateOf faultLanes faultsOf afterOf carriedOf stepOf runOf blocksOf partsOf outcomeKey keyOf
 marked =
     refl & refl & refl & refl & refl & refl & refl & refl & refl & refl & refl & refl & refl
     & gives 8 4 2 t12 (ended 9 (7 ∷ 8 ∷ 2 ∷ 2 ∷ []) 12) (lawful 4 t12 refl refl refl refl) (λ o e. other-outcome cc) (λ o. refl)

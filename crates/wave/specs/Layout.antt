@@ -2,8 +2,7 @@
 use mathlib.Core.List.{List, [], _∷_}
 use Prim.Native.Nat.{ℕ, zero, suc, _+_, _-_, _*_}
 use lib.ListN.{length, replicate, getD, set, drop}
-use Rattle.blocks.specs.Scan.{before, after, looping}
-use Rattle.blocks.specs.OpenAt.{partNumber}
+use Rattle.blocks.specs.Open.{before, after, looping, partNumber}
 use Rattle.lanes.specs.declared.said.Block.{Block}
 
 -- the numbers of a block, and of as many blocks as there is room for

@@ -4,7 +4,7 @@ use lanes::Lanes;
 ghost use mathlib.Core.Path.{_≡_};
 ghost use Prim.Native.Nat.{min};
 ghost use lib.ListN.{length};
-ghost use Rattle.blocks.specs.Scan.{nesting};
+ghost use Rattle.blocks.specs.Open.{nesting};
 ghost use Rattle.wave.specs.Layout.{pathNumbers};
 ghost use Rattle.wave.specs.Wave.{held, tidied};
 

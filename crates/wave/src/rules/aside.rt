@@ -17,7 +17,7 @@ ghost use Prim.Native.Nat.{_<_, min};
 ghost use lib.ListN.{set, getD};
 ghost use lib.Bits.{bitOr};
 ghost use Rattle.lanes.specs.declared.said.Block.{Block};
-ghost use Rattle.blocks.specs.Scan.{nesting};
+ghost use Rattle.blocks.specs.Open.{nesting};
 ghost use Rattle.wave.specs.Layout.{blockNumbers, opened, over};
 ghost use Rattle.wave.specs.Wave.{Does};
 ghost use Rattle.wave.specs.Rules.{asideRule, breakRule, continueRule, toLoop};

@@ -18,7 +18,7 @@ use lanes::said::Block;
 use lanes::without;
 ghost use mathlib.Core.Path.{_≡_};
 ghost use Prim.Native.Nat.{_<_};
-ghost use Rattle.blocks.specs.Scan.{nesting};
+ghost use Rattle.blocks.specs.Open.{nesting};
 ghost use Rattle.wave.specs.Layout.{put};
 ghost use Rattle.wave.specs.Wave.{Does};
 ghost use Rattle.wave.specs.Rules.{ifRule, loopRule};

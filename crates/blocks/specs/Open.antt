@@ -1,0 +1,37 @@
+-- The open blocks: the room for nesting, a block's part, and whether a loop is open. Page 01, "Blocks" and "The key".
+use Prim.Native.Nat.{ℕ}
+use mathlib.Core.Bool.{Bool, true, false}
+use mathlib.Core.List.{List, [], _∷_}
+
+-- the room for nesting
+abbrev pub nesting : ℕ
+nesting = 32
+
+-- the part of a block that a place stands in: an IF before its ELSE, an IF after it, a loop
+pub data Part : Type 0 where
+  before : Part
+  after : Part
+  looping : Part
+
+-- the page's number of a part: 1 before ELSE, 2 after, 3 loop
+abbrev pub partNumber : Part → ℕ
+partNumber before = 1
+partNumber after = 2
+partNumber looping = 3
+
+-- an open block: its part and the place of its opener
+pub data Open : Type 0 where
+  open-at : Part → ℕ → Open
+
+abbrev pub partNumberOf : Open → ℕ
+partNumberOf (open-at part p) = partNumber part
+
+abbrev pub openerOf : Open → ℕ
+openerOf (open-at part p) = p
+
+-- is there a loop among the open blocks?
+unfoldable pub inLoop : List Open → Bool
+inLoop [] = false
+inLoop (open-at before p ∷ o) = inLoop o
+inLoop (open-at after p ∷ o) = inLoop o
+inLoop (open-at looping p ∷ o) = true
