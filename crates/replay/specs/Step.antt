@@ -13,6 +13,7 @@ use Rattle.wave.specs.Control.{controlRule, faultLanes}
 use Rattle.faulting.specs.declared.faults.Faults.{Faults}
 use Rattle.faulting.specs.Kinds.{clear, ofBarrier}
 use Rattle.compute.specs.declared.Shape.{Shape}
+use Rattle.compute.specs.Registers.{lanesIn}
 use Rattle.compute.specs.Carrying.{Outcome, carriedOf}
 use Rattle.replay.specs.declared.settings.Settings.{Settings}
 use Rattle.replay.specs.declared.step.StepAnswer.{StepAnswer}
@@ -20,6 +21,10 @@ use Rattle.replay.specs.Machine.{Machine, machineOf, named, withNamed}
 
 abbrev pub shapeOf : Settings → Shape
 shapeOf s = record { width = s .width; registers = s .registers }
+
+-- a lent buffer of registers, as the definitions read it
+abbrev pub registersIn : Settings → List ℕ → List ℕ
+registersIn s l = lanesIn (shapeOf s) l
 
 -- n: a wave is never wider than the widest
 abbrev pub launchedLanes : Settings → ℕ

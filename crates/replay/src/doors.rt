@@ -13,6 +13,7 @@ use wave::launch::not_launched;
 use wave::state::State;
 use wave::state::tidy;
 ghost use mathlib.Core.Path.{_≡_};
+ghost use Rattle.replay.specs.Step.{registersIn};
 ghost use Rattle.replay.specs.Replay.{refusedAs, answered, localAfter, stateMachine, runFrom, launchOf, resumeOf};
 
 // What local memory holds when a launched run starts.
@@ -39,8 +40,8 @@ fn run_from(
     local: &mut [u32],
 ) -> Replayed
     ensures { λ r. ⌜
-        answered r (now (regs .exit)) (now (device .exit)) (now (local .exit))
-        ≡ runFrom settings (now (code .entry)) (stateMachine state (now (regs .entry)) (now (device .entry)) (now (local .entry))) ⌝ }
+        answered r (registersIn settings (now (regs .exit))) (now (device .exit)) (now (local .exit))
+        ≡ runFrom settings (now (code .entry)) (stateMachine state (registersIn settings (now (regs .entry))) (now (device .entry)) (now (local .entry))) ⌝ }
 {
     let mut path = state.blocks;
     let hot = state.hot;
@@ -78,8 +79,8 @@ pub fn launch(
     local: &mut [u32],
 ) -> Replayed
     ensures { λ r. ⌜
-        answered r (now (regs .exit)) (now (device .exit)) (now (local .exit))
-        ≡ launchOf settings (now (code .entry)) (now (regs .entry)) (now (device .entry)) (now (local .entry)) ⌝ }
+        answered r (registersIn settings (now (regs .exit))) (now (device .exit)) (now (local .exit))
+        ≡ launchOf settings (now (code .entry)) (registersIn settings (now (regs .entry))) (now (device .entry)) (now (local .entry)) ⌝ }
 {
     let test = test_launch(settings, code, regs);
     fill_local(test, local);
@@ -107,8 +108,8 @@ pub fn resume(
     local: &mut [u32],
 ) -> Replayed
     ensures { λ r. ⌜
-        answered r (now (regs .exit)) (now (device .exit)) (now (local .exit))
-        ≡ resumeOf settings state (now (code .entry)) (now (regs .entry)) (now (device .entry)) (now (local .entry)) ⌝ }
+        answered r (registersIn settings (now (regs .exit))) (now (device .exit)) (now (local .exit))
+        ≡ resumeOf settings state (now (code .entry)) (registersIn settings (now (regs .entry))) (now (device .entry)) (now (local .entry)) ⌝ }
 {
     let test = test_resume(settings, state, code, regs);
     match test {

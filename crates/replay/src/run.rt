@@ -11,6 +11,7 @@ use words::fetching::fetch_at;
 ghost use mathlib.Core.Path.{_≡_};
 ghost use lib.ListN.{length};
 ghost use Rattle.replay.specs.Machine.{machineOf};
+ghost use Rattle.replay.specs.Step.{registersIn};
 ghost use Rattle.replay.specs.Run.{endedAt, gone, runOf};
 
 // Where a run stopped: its outcome, its steps and the hot numbers.
@@ -39,9 +40,9 @@ pub(crate) fn go(
     local: &mut [u32],
 ) -> Stopped
     ensures { λ r. ⌜
-        gone r (now (path .exit)) (now (regs .exit)) (now (device .exit)) (now (local .exit))
+        gone r (now (path .exit)) (registersIn settings (now (regs .exit))) (now (device .exit)) (now (local .exit))
         ≡ runOf settings (now (code .entry)) (settings .budget)
-        (machineOf h (now (path .entry)) (now (regs .entry)) (now (device .entry)) (now (local .entry))) ⌝ }
+        (machineOf h (now (path .entry)) (registersIn settings (now (regs .entry))) (now (device .entry)) (now (local .entry))) ⌝ }
 {
     let budget = settings.budget;
     let mut hot = h;

@@ -22,7 +22,7 @@ ghost use Prim.Native.Nat.{ℕ};
 ghost use Rattle.wave.specs.Wave.{waveOf, predsOf};
 ghost use Rattle.words.specs.Fetching.{controlIn};
 ghost use Rattle.replay.specs.Machine.{machineOf, named, withNamed, hotWith};
-ghost use Rattle.replay.specs.Step.{ordinaryOf, stepped, stepOf};
+ghost use Rattle.replay.specs.Step.{registersIn, ordinaryOf, stepped, stepOf};
 
 // After a step: the faults, and the hot numbers.
 pub struct StepAnswer {
@@ -67,8 +67,8 @@ fn ordinary(
     local: &mut [u32],
 ) -> StepAnswer
     ensures { λ r. ⌜ ((path : List ℕ) →
-        stepped r path (now (regs .exit)) (now (device .exit)) (now (local .exit))
-        ≡ ordinaryOf settings x t (machineOf h path (now (regs .entry)) (now (device .entry)) (now (local .entry)))) ⌝ }
+        stepped r path (registersIn settings (now (regs .exit))) (now (device .exit)) (now (local .exit))
+        ≡ ordinaryOf settings x t (machineOf h path (registersIn settings (now (regs .entry))) (now (device .entry)) (now (local .entry)))) ⌝ }
 {
     let instr = x.instr;
     let rd = instr.rd;
@@ -97,8 +97,8 @@ pub(crate) fn step(
     local: &mut [u32],
 ) -> StepAnswer
     ensures { λ r. ⌜
-        stepped r (now (path .exit)) (now (regs .exit)) (now (device .exit)) (now (local .exit))
-        ≡ stepOf settings x (machineOf h (now (path .entry)) (now (regs .entry)) (now (device .entry)) (now (local .entry))) ⌝ }
+        stepped r (now (path .exit)) (registersIn settings (now (regs .exit))) (now (device .exit)) (now (local .exit))
+        ≡ stepOf settings x (machineOf h (now (path .entry)) (registersIn settings (now (regs .entry))) (now (device .entry)) (now (local .entry))) ⌝ }
 {
     let instr = x.instr;
     let guard = instr.guard;
