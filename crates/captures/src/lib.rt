@@ -45,7 +45,7 @@ pub const STATE_COUNT: usize = LOCAL_COUNT + 4;
 const SIXTH_COUNT: usize = STATE_COUNT + 4;
 
 // The bytes of the header.
-const HEADER_BYTES: usize = SIXTH_COUNT + 4;
+pub const HEADER_BYTES: usize = SIXTH_COUNT + 4;
 
 // A state's words before those of its blocks, and the words of each block.
 const HOT_WORDS: usize = 7;

@@ -15,7 +15,7 @@ ghost use Rattle.packing.specs.Words.{hotIn, pathIn, stateIn, wordsOf, w
 pub const HOT_WORDS: usize = 7;
 
 // The words of a state with as many blocks as there is room for.
-pub const STATE_WORDS: usize = 199;
+pub const STATE_WORDS: usize = HOT_WORDS + PATH_NUMBERS;
 
 // Word k, 0 where there are not so many.
 fn word_at(words: &[u32], k: usize) -> u32

@@ -1,5 +1,8 @@
 // Room for a capture and its words, in two sizes: most captures are small, and don't pay for large rooms. Each `ensures` gives only the
 // length, which lending the array as a slice needs.
+use captures::HEADER_BYTES;
+use packing::HOT_WORDS;
+use wave::state::BLOCK_NUMBERS;
 ghost use mathlib.Core.Path.{_≡_};
 ghost use lib.ListN.{length};
 
@@ -9,7 +12,7 @@ pub(crate) const CODE_ROOM: usize = 65_537;
 pub(crate) const REGISTER_ROOM: usize = 16_384;
 
 // The words of a state of depth 64; one of more than 32 blocks is refused by the run.
-pub(crate) const STATE_ROOM: usize = 391;
+pub(crate) const STATE_ROOM: usize = HOT_WORDS + 64 * BLOCK_NUMBERS;
 
 // The words of memory in the small rooms, and in the large ones: 64 MiB of device memory and 16 MiB of local memory.
 pub(crate) const SMALL_DEVICE: usize = 262_144;
@@ -21,9 +24,13 @@ pub(crate) const LARGE_DEVICE: usize = 16_777_216;
 pub(crate) const LARGE_LOCAL: usize = 4_194_304;
 
 // The bytes of the largest capture that each size has room for, and one more, so that a longer file shows.
-pub(crate) const SMALL_FILE: usize = 1_640_021;
+pub(crate) const SMALL_FILE: usize = HEADER_BYTES
+    + 4 * (CODE_ROOM + REGISTER_ROOM + SMALL_DEVICE + SMALL_LOCAL + STATE_ROOM)
+    + 1;
 
-pub(crate) const LARGE_FILE: usize = 84_215_381;
+pub(crate) const LARGE_FILE: usize = HEADER_BYTES
+    + 4 * (CODE_ROOM + REGISTER_ROOM + LARGE_DEVICE + LARGE_LOCAL + STATE_ROOM)
+    + 1;
 
 pub(crate) fn small_file() -> [u8; SMALL_FILE]
     ensures { λ r. ⌜ 1640021 ≡ length r ⌝ }
