@@ -14,12 +14,12 @@ mod places;
 mod sets;
 
 // Whether a state fits code that passed its check, with the lanes 0 to `n` - 1 launched: refusal 11 is where it does not.
-pub fn fits(code: &[u32], reading: Reading, n: u32, h: Hot, bl: &[u32; PATH_NUMBERS]) -> bool
-    ensures { λ r. ⌜ r ≡ fitsTest (now (code .entry)) reading n h (now (bl .entry)) ⌝ }
+pub fn fits(code: &[u32], reading: Reading, n: u32, h: Hot, blocks: &[u32; PATH_NUMBERS]) -> bool
+    ensures { λ r. ⌜ r ≡ fitsTest (now (code .entry)) reading n h (now (blocks .entry)) ⌝ }
 {
     let wide = n <= WIDEST;
     let deep = h.depth <= NESTING;
-    let placed = open_there(code, reading, h, bl);
-    let sets = sets_fit(h, first(n), bl);
+    let placed = open_there(code, reading, h, blocks);
+    let sets = sets_fit(h, first(n), blocks);
     wide & deep & placed & sets
 }

@@ -23,40 +23,45 @@ fn place_of(number: u32) -> usize
 }
 
 // Whether block d of the array has the part and the opener that the stack has at d.
-fn same_block(d: u32, bl: &[u32; PATH_NUMBERS], stack: Stack) -> bool
+fn same_block(d: u32, blocks: &[u32; PATH_NUMBERS], stack: Stack) -> bool
     requires { ⌜ d < nesting ⌝ }
-    ensures { λ r. ⌜ r ≡ sameBlock (now (bl .entry)) (stack .parts) (stack .openers) d ⌝ }
+    ensures { λ r. ⌜ r ≡ sameBlock (now (blocks .entry)) (stack .parts) (stack .openers) d ⌝ }
 {
     let i = d as usize;
     let k = BLOCK_NUMBERS * i;
     let part = stack.parts[i];
     let opener = stack.openers[i];
-    (bl[k] == part) & (place_of(bl[k + OPENER]) == opener)
+    (blocks[k] == part) & (place_of(blocks[k + OPENER]) == opener)
 }
 
 // Whether the first d blocks of the array have the parts and the openers of the stack.
-fn same_blocks(d: u32, bl: &[u32; PATH_NUMBERS], stack: Stack) -> bool
+fn same_blocks(d: u32, blocks: &[u32; PATH_NUMBERS], stack: Stack) -> bool
     requires { ⌜ d ≤ nesting ⌝ }
-    ensures { λ r. ⌜ r ≡ sameBlocks (now (bl .entry)) (stack .parts) (stack .openers) d ⌝ }
+    ensures { λ r. ⌜ r ≡ sameBlocks (now (blocks .entry)) (stack .parts) (stack .openers) d ⌝ }
 {
     let mut ok = true;
     let mut i = d;
     while 0 < i {
         i -= 1;
-        ok = ok & same_block(i, bl, stack);
+        ok = ok & same_block(i, blocks, stack);
     }
     ok
 }
 
 // Whether the place is an instruction's first word or the end, and the open blocks are those that the code has open there, in order, with
 // the right half of each IF.
-pub(crate) fn open_there(code: &[u32], reading: Reading, h: Hot, bl: &[u32; PATH_NUMBERS]) -> bool
-    ensures { λ r. ⌜ r ≡ placeTest (openAt (codeOf (now (code .entry)) reading) (h .place)) (waveOf h (now (bl .entry)) .path) ⌝ }
+pub(crate) fn open_there(
+    code: &[u32],
+    reading: Reading,
+    h: Hot,
+    blocks: &[u32; PATH_NUMBERS],
+) -> bool
+    ensures { λ r. ⌜ r ≡ placeTest (openAt (codeOf (now (code .entry)) reading) (h .place)) (waveOf h (now (blocks .entry)) .path) ⌝ }
 {
     let at = open_at(code, reading, place_of(h.place));
     let found = at.found;
     let stack = at.stack;
     let depth = stack.depth;
     let d = depth_of(h.depth);
-    found & (depth == (d as usize)) & same_blocks(d, bl, stack)
+    found & (depth == (d as usize)) & same_blocks(d, blocks, stack)
 }

@@ -64,31 +64,31 @@ fn block_fits(all: Lanes, inner: Lanes, b: Block) -> bool
 }
 
 // Block d of the array.
-fn block_at(d: u32, bl: &[u32; PATH_NUMBERS]) -> Block
+fn block_at(d: u32, blocks: &[u32; PATH_NUMBERS]) -> Block
     requires { ⌜ d < nesting ⌝ }
-    ensures { λ r. ⌜ r ≡ blockAt (now (bl .entry)) d ⌝ }
+    ensures { λ r. ⌜ r ≡ blockAt (now (blocks .entry)) d ⌝ }
 {
     let k = BLOCK_NUMBERS * (d as usize);
     Block {
-        part: bl[k],
-        opener: bl[k + OPENER],
-        entered: bl[k + ENTERED],
-        aside: bl[k + ASIDE],
-        again: bl[k + AGAIN],
-        left: bl[k + LEFT],
+        part: blocks[k],
+        opener: blocks[k + OPENER],
+        entered: blocks[k + ENTERED],
+        aside: blocks[k + ASIDE],
+        again: blocks[k + AGAIN],
+        left: blocks[k + LEFT],
     }
 }
 
 // Whether the sets fit; `all` are the launched lanes.
-pub(crate) fn sets_fit(h: Hot, all: Lanes, bl: &[u32; PATH_NUMBERS]) -> bool
-    ensures { λ r. ⌜ r ≡ test.setsTest all (waveOf h (now (bl .entry))) (predsOf h) ⌝ }
+pub(crate) fn sets_fit(h: Hot, all: Lanes, blocks: &[u32; PATH_NUMBERS]) -> bool
+    ensures { λ r. ⌜ r ≡ test.setsTest all (waveOf h (now (blocks .entry))) (predsOf h) ⌝ }
 {
     let mut ok = true;
     let mut inner = h.active;
     let mut i = depth_of(h.depth);
     while 0 < i {
         i -= 1;
-        let b = block_at(i, bl);
+        let b = block_at(i, blocks);
         ok = ok & block_fits(all, inner, b);
         inner = with_aside(inner, b);
     }

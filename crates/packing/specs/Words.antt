@@ -30,12 +30,12 @@ hotIn ws =
     }
 
 -- the numbers of the blocks, as many as there is room for
-unfoldable pub pathIn : List ℕ → List ℕ
-pathIn ws = tabulate pathNumbers (λ k. getD ws (hotWords + k) 0)
+unfoldable pub blocksIn : List ℕ → List ℕ
+blocksIn ws = tabulate pathNumbers (λ k. getD ws (hotWords + k) 0)
 
 -- the state of words
 unfoldable pub stateIn : List ℕ → State
-stateIn ws = record { hot = hotIn ws; blocks = pathIn ws }
+stateIn ws = record { hot = hotIn ws; blocks = blocksIn ws }
 
 -- the words of a state
 unfoldable pub wordsOf : State → List ℕ

@@ -9,7 +9,7 @@ use wave::state::whole;
 ghost use mathlib.Core.Path.{_≡_};
 ghost use mathlib.Core.List.{_++_};
 ghost use lib.ListN.{getD};
-ghost use Rattle.packing.specs.Words.{hotIn, pathIn, stateIn, wordsOf, wordCount};
+ghost use Rattle.packing.specs.Words.{hotIn, blocksIn, stateIn, wordsOf, wordCount};
 
 // The words before those of the blocks.
 pub const HOT_WORDS: usize = 7;
@@ -40,16 +40,16 @@ fn hot_of(words: &[u32]) -> Hot
 }
 
 // The numbers of the blocks.
-fn path_of(words: &[u32]) -> [u32; PATH_NUMBERS]
-    ensures { λ r. ⌜ r ≡ pathIn (now (words .entry)) ⌝ }
+fn blocks_of(words: &[u32]) -> [u32; PATH_NUMBERS]
+    ensures { λ r. ⌜ r ≡ blocksIn (now (words .entry)) ⌝ }
 {
-    let mut path = [0u32; PATH_NUMBERS];
+    let mut blocks = [0u32; PATH_NUMBERS];
     let mut k: usize = 0;
     while k < PATH_NUMBERS {
-        path[k] = word_at(words, HOT_WORDS + k);
+        blocks[k] = word_at(words, HOT_WORDS + k);
         k += 1;
     }
-    path
+    blocks
 }
 
 // The state of these words. Missing words read as 0; words past the room for blocks are not read.
@@ -57,7 +57,7 @@ pub fn state_of(words: &[u32]) -> State
     ensures { λ r. ⌜ r ≡ stateIn (now (words .entry)) ⌝ }
 {
     let hot = hot_of(words);
-    let blocks = path_of(words);
+    let blocks = blocks_of(words);
     State { hot, blocks }
 }
 

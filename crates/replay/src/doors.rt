@@ -43,19 +43,16 @@ fn run_from(
         answered r (registersIn settings (now (regs .exit))) (now (device .exit)) (now (local .exit))
         ≡ runFrom settings (now (code .entry)) (stateMachine state (registersIn settings (now (regs .entry))) (now (device .entry)) (now (local .entry))) ⌝ }
 {
-    let mut path = state.blocks;
+    let mut blocks = state.blocks;
     let hot = state.hot;
-    let a = go(settings, hot, code, &mut path, regs, device, local);
+    let a = go(settings, hot, code, &mut blocks, regs, device, local);
     let outcome = a.outcome;
     let steps = a.steps;
-    let end = tidy(a.hot, &mut path);
+    let end = tidy(a.hot, &mut blocks);
     Replayed {
         outcome,
         steps,
-        state: State {
-            hot: end,
-            blocks: path,
-        },
+        state: State { hot: end, blocks },
     }
 }
 

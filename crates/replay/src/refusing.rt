@@ -91,8 +91,8 @@ pub(crate) fn test_resume(s: Settings, state: State, code: &[u32], regs: &[u32])
         Checked::Refused(refusal) => Checked::Refused(refusal),
         Checked::Fine => {
             let hot = state.hot;
-            let path = state.blocks;
-            refuse_unless(fits(code, reading_of(s), s.lanes, hot, &path), STATE)
+            let blocks = state.blocks;
+            refuse_unless(fits(code, reading_of(s), s.lanes, hot, &blocks), STATE)
         }
     }
 }

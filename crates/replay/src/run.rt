@@ -34,15 +34,15 @@ pub(crate) fn go(
     settings: Settings,
     h: Hot,
     code: &[u32],
-    path: &mut [u32; PATH_NUMBERS],
+    blocks: &mut [u32; PATH_NUMBERS],
     regs: &mut [u32],
     device: &mut [u32],
     local: &mut [u32],
 ) -> Stopped
     ensures { λ r. ⌜
-        gone r (now (path .exit)) (registersIn settings (now (regs .exit))) (now (device .exit)) (now (local .exit))
+        gone r (now (blocks .exit)) (registersIn settings (now (regs .exit))) (now (device .exit)) (now (local .exit))
         ≡ runOf settings (now (code .entry)) (settings .budget)
-        (machineOf h (now (path .entry)) (registersIn settings (now (regs .entry))) (now (device .entry)) (now (local .entry))) ⌝ }
+        (machineOf h (now (blocks .entry)) (registersIn settings (now (regs .entry))) (now (device .entry)) (now (local .entry))) ⌝ }
 {
     let budget = settings.budget;
     let mut hot = h;
@@ -63,7 +63,7 @@ pub(crate) fn go(
             };
         }
         let x = fetch_at(code, hot.place as usize);
-        let a = step(x, settings, hot, path, regs, device, local);
+        let a = step(x, settings, hot, blocks, regs, device, local);
         let faults = a.faults;
         let next = a.hot;
         if !is_clear(faults) {

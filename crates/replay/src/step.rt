@@ -66,9 +66,9 @@ fn ordinary(
     device: &mut [u32],
     local: &mut [u32],
 ) -> StepAnswer
-    ensures { λ r. ⌜ ((path : List ℕ) →
-        stepped r path (registersIn settings (now (regs .exit))) (now (device .exit)) (now (local .exit))
-        ≡ ordinaryOf settings x t (machineOf h path (registersIn settings (now (regs .entry))) (now (device .entry)) (now (local .entry)))) ⌝ }
+    ensures { λ r. ⌜ ((blocks : List ℕ) →
+        stepped r blocks (registersIn settings (now (regs .exit))) (now (device .exit)) (now (local .exit))
+        ≡ ordinaryOf settings x t (machineOf h blocks (registersIn settings (now (regs .entry))) (now (device .entry)) (now (local .entry)))) ⌝ }
 {
     let instr = x.instr;
     let rd = instr.rd;
@@ -91,14 +91,14 @@ pub(crate) fn step(
     x: Fetched,
     settings: Settings,
     h: Hot,
-    path: &mut [u32; PATH_NUMBERS],
+    blocks: &mut [u32; PATH_NUMBERS],
     regs: &mut [u32],
     device: &mut [u32],
     local: &mut [u32],
 ) -> StepAnswer
     ensures { λ r. ⌜
-        stepped r (now (path .exit)) (registersIn settings (now (regs .exit))) (now (device .exit)) (now (local .exit))
-        ≡ stepOf settings x (machineOf h (now (path .entry)) (registersIn settings (now (regs .entry))) (now (device .entry)) (now (local .entry))) ⌝ }
+        stepped r (now (blocks .exit)) (registersIn settings (now (regs .exit))) (now (device .exit)) (now (local .exit))
+        ≡ stepOf settings x (machineOf h (now (blocks .entry)) (registersIn settings (now (regs .entry))) (now (device .entry)) (now (local .entry))) ⌝ }
 {
     let instr = x.instr;
     let guard = instr.guard;
@@ -107,8 +107,8 @@ pub(crate) fn step(
     let kind = control_in(op);
     match kind {
         ControlIn::Control(o) => {
-            whole(path);
-            let a = control(o, t, first(settings.lanes), h, path);
+            whole(blocks);
+            let a = control(o, t, first(settings.lanes), h, blocks);
             let hot = a.hot;
             let faults = of_barrier(a.barrier);
             StepAnswer { faults, hot }

@@ -6,7 +6,7 @@ use Rattle.fits.proofs.fits.Tie as tie
 
 returns : tie.Need-returns
 returns c = let s = c .before .before .before .before .before .args in
-    tested (s .code .now) (s .reading) (s .n) _ (s .h) (s .bl .now) _ _ (c .before .first .ensures) (c .before .before .open-there .ensures)
+    tested (s .code .now) (s .reading) (s .n) _ (s .h) (s .blocks .now) _ _ (c .before .first .ensures) (c .before .before .open-there .ensures)
     (c .sets-fit .ensures)
 
 pub fits-spec : {M : Type 1} → statement M

@@ -6,7 +6,7 @@ use Rattle.fits.proofs.places.open_there.Tie as tie
 
 returns : tie.Need-returns
 returns c = let s = c .before .before .before .before .before .before .args in
-    there-tested (s .code .now) (s .reading) (s .h) (s .bl .now) _ _ _ _ (c .before .before .before .before .place-of .ensures) (c .before .depth-of .ensures)
+    there-tested (s .code .now) (s .reading) (s .h) (s .blocks .now) _ _ _ _ (c .before .before .before .before .place-of .ensures) (c .before .depth-of .ensures)
     (c .before .before .before .open-at .ensures) (c .same-blocks .ensures)
 
 pub open-there-spec : {M : Type 1} → statement M

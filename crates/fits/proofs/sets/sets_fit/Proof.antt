@@ -12,10 +12,10 @@ use Rattle.fits.proofs.sets.sets_fit.Statement.{statement}
 use Rattle.fits.proofs.sets.sets_fit.Tie as tie
 
 abbrev Inv-loop : tie.InvT-loop
-Inv-loop h all bl ok₀ inner₀ i₀ ok inner i = (i ≤ nesting) × ((ok && pathTest all (h .halted) inner (opened bl i)) ≡ pathTest all (h .halted) inner₀ (opened bl i₀))
+Inv-loop h all blocks ok₀ inner₀ i₀ ok inner i = (i ≤ nesting) × ((ok && pathTest all (h .halted) inner (opened blocks i)) ≡ pathTest all (h .halted) inner₀ (opened blocks i₀))
 
 abbrev μ-loop : tie.MeasureT-loop
-μ-loop h all bl ok₀ inner₀ i₀ ok inner i = i
+μ-loop h all blocks ok₀ inner₀ i₀ ok inner i = i
 
 depth-of-requires : tie.Need-depth-of-requires Inv-loop μ-loop
 depth-of-requires c κs = tt
@@ -33,7 +33,7 @@ loop-again : tie.Need-loop-again Inv-loop μ-loop
 loop-again c = let l = c .before .before .before .before .loop in
     let s = c .before .before .before .before .before .before .args in (
       omega arith,
-      test-next (s .all) (s .h .halted) (l .inner) _ (s .bl .now) (l .ok) _ (l .i) _ (omega arith) (c .before .before .block-at .ensures)
+      test-next (s .all) (s .h .halted) (l .inner) _ (s .blocks .now) (l .ok) _ (l .i) _ (omega arith) (c .before .before .block-at .ensures)
           (c .before .block-fits .ensures) (c .with-aside .ensures) ∙ l .inv .1,
     )
 
@@ -52,7 +52,7 @@ within-requires-3 c κs = tt
 returns : tie.Need-returns Inv-loop μ-loop
 returns c = let l = c .before .before .before .before .before .loop in
     let s = c .before .before .before .before .before .before .before .args in
-    test-end (s .h) (s .all) (l .inner) (s .bl .now) (l .ok) _ _ _ _ (l .i) _ (omega arith) (c .before .before .before .before .before .before .depth-of .ensures) (l .inv .1)
+    test-end (s .h) (s .all) (l .inner) (s .blocks .now) (l .ok) _ _ _ _ (l .i) _ (omega arith) (c .before .before .before .before .before .before .depth-of .ensures) (l .inv .1)
     (c .before .before .before .joins .ensures) (c .before .before .within .ensures) (c .before .within2 .ensures) (c .within3 .ensures)
 
 pub sets-fit-spec : {M : Type 1} → statement M

@@ -11,15 +11,15 @@ use Rattle.replay.proofs.run.go.Statement.{statement}
 use Rattle.replay.proofs.run.go.Tie as tie
 
 abbrev Inv-loop : tie.InvT-loop
-Inv-loop settings code path₀ regs₀ device₀ local₀ budget hot₀ steps₀ path regs device local hot steps =
-    Going settings code budget steps (machineOf hot₀ path₀ regs₀ device₀ local₀) (machineOf hot path regs device local)
+Inv-loop settings code blocks₀ regs₀ device₀ local₀ budget hot₀ steps₀ blocks regs device local hot steps =
+    Going settings code budget steps (machineOf hot₀ blocks₀ regs₀ device₀ local₀) (machineOf hot blocks regs device local)
 
 abbrev μ-loop : tie.MeasureT-loop
-μ-loop settings code path₀ regs₀ device₀ local₀ budget hot₀ steps₀ path regs device local hot steps = budget - steps
+μ-loop settings code blocks₀ regs₀ device₀ local₀ budget hot₀ steps₀ blocks regs device local hot steps = budget - steps
 
 -- the machine that the run starts from
 abbrev first : tie.Start Inv-loop μ-loop → Machine
-first z = machineOf (z .args .h) (z .args .path .now) (z .args .regs .now) (z .args .device .now) (z .args .local .now)
+first z = machineOf (z .args .h) (z .args .blocks .now) (z .args .regs .now) (z .args .device .now) (z .args .local .now)
 
 -- what the step gave
 abbrev given : tie.After-step Inv-loop μ-loop → Stepped

@@ -23,12 +23,12 @@ worked z =
     }
 
 returns : tie.Need-returns
-returns c = λ path.
+returns c = λ blocks.
     let clear = c .before .before in
-    ordinary-on (worked (clear .before)) path (c .before .onward-by .ensures) (c .with-named .ensures) (clear .if1 .taken)
+    ordinary-on (worked (clear .before)) blocks (c .before .onward-by .ensures) (c .with-named .ensures) (clear .if1 .taken)
 
 returns-2 : tie.Need-returns-2
-returns-2 c = λ path. ordinary-off (worked (c .before)) path (c .if1 .left)
+returns-2 c = λ blocks. ordinary-off (worked (c .before)) blocks (c .if1 .left)
 
 pub ordinary-spec : {M : Type 1} → statement M
 ordinary-spec = tie.close (tie.spec

@@ -18,7 +18,7 @@ returns c =
     let known = counted .before .before .before .before in
     let read = known .before .before in
     let a = read .before .before .before .before .before .before .before .args in
-    step-control (looked read) (known .kind .given .1) _ (a .path .now) (counted .first .ensures) (counted .before .whole .ensures)
+    step-control (looked read) (known .kind .given .1) _ (a .blocks .now) (counted .first .ensures) (counted .before .whole .ensures)
     (ruled .control .ensures) (c .of-barrier .ensures)
 
 returns-2 : tie.Need-returns-2
