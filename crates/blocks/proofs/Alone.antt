@@ -12,7 +12,6 @@ use Rattle.ground.proofs.Tests.{true-or-false}
 use Rattle.refusals.specs.declared.Refusal.{Refusal}
 use Rattle.refusals.specs.Table.{Rule, broken}
 use Rattle.instructions.specs.declared.instr.ControlOp.{ControlOp}
-use Rattle.instructions.specs.declared.instr.Instr.{Instr}
 use Rattle.words.specs.declared.fetching.ControlIn.{ControlIn}
 use Rattle.words.specs.Fetching.{controlIn}
 use Rattle.words.specs.Layout.{wordsOf}

@@ -46,10 +46,6 @@ pub filled-top : (f : Open → ℕ) (b : Open) (o : List Open) → length o < ne
 unfolding filled
 filled-top f b o h = getD-set-same (filled f o) (length o) (f b) 0 (omega (arith, length-filled f o))
 
-pub filled-under : (f : Open → ℕ) (b : Open) (o : List Open) (i : ℕ) → i < length o → getD (filled f (b ∷ o)) i 0 ≡ getD (filled f o) i 0
-unfolding filled
-filled-under f b o i h = getD-set-other (filled f o) (length o) i (f b) 0 (λ e. omega arith)
-
 -- what was put is taken away again
 filled-back : (f : Open → ℕ) (x : Open) (o : List Open) → length o < nesting → set (filled f (x ∷ o)) (length o) 0 ≡ filled f o
 unfolding filled

@@ -16,7 +16,7 @@ use Rattle.ground.proofs.Bools.{and-right}
 use Rattle.ground.proofs.Tests.{false-of, true-or-false}
 use Rattle.formats.specs.Places.{each}
 use Rattle.body.specs.declared.BodyAnswer.the-variants.{Length, Refused}
-use Rattle.body.specs.Body.{Parts, setBytes, partsAt, sizeAt}
+use Rattle.body.specs.Body.{setBytes, partsAt, sizeAt}
 use Rattle.body.specs.Layout.{lastPlace, mostDepth, kindLists, faultsFit, blockFits, ofLayout, starts, startsBody, bodyAnswer}
 use Rattle.body.specs.Places.{countAt, depthAt, blockAt}
 use Rattle.body.proofs.Places.{count-faults, depth-blocks, blocks-place, size-place}

@@ -6,14 +6,12 @@ use native.Mathlib.Omega.{arith}
 use lib.ListN.{length, drop, length-append}
 use lib.Seq.{drop-drop}
 use Rattle.numbers.specs.Numbers.{numberAt}
-use Rattle.formats.specs.Format.{Format, bytesIn, number, both, counted, seenAs, valueIn, sizeTimes}
+use Rattle.formats.specs.Format.{bytesIn, number, both, counted, seenAs, valueIn, sizeTimes}
 use Rattle.formats.specs.Places.{each}
 use Rattle.formats.proofs.Digits.{length-bytesIn}
 use Rattle.formats.proofs.Each.{length-each}
 use Rattle.formats.proofs.Sizes.{times-take, times-long, times-places}
 use Rattle.formats.proofs.Words.{four-value}
-use Rattle.lanes.specs.declared.said.Block.{Block}
-use Rattle.lanes.specs.declared.said.Fault.{Fault}
 use Rattle.body.specs.Body.{Parts, faultFormat, blockFormat, bodyFormat}
 use Rattle.body.specs.Layout.{faultBytes, blockBytes, lengthOf}
 use Rattle.body.specs.Places.{kernelPlace, placePlace, kindsPlace, countAt, activePlace, depthPlace, blocksPlace, depthAt, faultAt, blockAt}

@@ -12,9 +12,8 @@ use Rattle.formats.specs.Format.{number, both, seenAs}
 use Rattle.formats.specs.Places.{readAt}
 use Rattle.formats.proofs.Each.{getD-each}
 use Rattle.formats.proofs.Words.{four-value}
-use Rattle.lanes.specs.declared.said.Block.{Block}
 use Rattle.lanes.specs.declared.said.Fault.{Fault}
-use Rattle.body.specs.Body.{Parts, setBytes, faultFormat, blockFormat, partsAt, noFault}
+use Rattle.body.specs.Body.{setBytes, faultFormat, blockFormat, partsAt, noFault}
 use Rattle.body.specs.Layout.{lastPlace, beforePart, loopPart, blockFits}
 use Rattle.body.specs.Places.{kindsPlace, countAt, depthAt, faultAt, blockAt}
 use Rattle.body.proofs.Places.{faults-place, count-faults, depth-blocks}

@@ -11,7 +11,6 @@ use borrow.Author.Tests.{leb-true, le-leb, eq-eqb, eqb-true}
 use Rattle.ground.specs.Tests.{oneOf, allOf}
 use Rattle.ground.proofs.Bools.{and-left, and-right, and-both}
 use Rattle.ground.proofs.Tests.{one-all}
-use Rattle.formats.proofs.Lawful.{Lawful}
 use Rattle.lanes.specs.declared.said.Fault.{Fault}
 use Rattle.body.specs.Body.{Parts, bodyFormat, setBytes, sizeAt}
 use Rattle.body.specs.Layout.{lastPlace, mostDepth, mostKinds, Kinds, kindLists, shortest, longest, apart, faultsFit, blockFits, ofLayout, starts, isWhole}

@@ -10,7 +10,7 @@ use Rattle.formats.proofs.Lawful.{whole}
 use Rattle.body.specs.Body.{Parts, bodyFormat}
 use Rattle.body.specs.Layout.{Kinds, ofLayout, isWhole}
 use Rattle.body.proofs.Formats.{body-lawful}
-use Rattle.body.proofs.Starts.{Fits, fits-of, of-fits, starts-body, body-starts}
+use Rattle.body.proofs.Starts.{fits-of, of-fits, starts-body, body-starts}
 
 module _ (w : ℕ) where
   -- parts for which there is room come back from their bytes, and so does their length

@@ -19,7 +19,6 @@ use Rattle.instructions.specs.declared.instr.Instr.{Instr}
 use Rattle.instructions.specs.Registers.{registersOf}
 use Rattle.faulting.specs.declared.faults.Faults.{Faults}
 use Rattle.faulting.specs.Kinds.{noFaults, clear}
-use Rattle.faulting.specs.Causes.{kindsOf}
 use Rattle.faulting.proofs.FaultKinds.{idle-kinds}
 use Rattle.compute.specs.declared.Shape.{Shape}
 use Rattle.compute.specs.Registers.{slotIn, writeLanes}
@@ -155,14 +154,6 @@ module _ (shape : Shape) (x : Instr) (t : ℕ) (m : Lent) where
   length-changed Space.Device Space.Local at f y = refl
   length-changed Space.Local Space.Device at f y = refl
   length-changed Space.Local Space.Local at f y = length-changes (shape .width) at f t (y .local)
-
-  pub length-memory : (q : Space) → length (memoryOf q (carriedOf shape x t m .after .memories)) ≡ length (memoryOf q (m .memories))
-  unfolding afterOf
-  length-memory q =
-      after-by (λ (l : Lent). length (memoryOf q (l .memories)) ≡ length (memoryOf q (m .memories)))
-      (λ e. memories-by (λ (y : Memories). length (memoryOf q y) ≡ length (memoryOf q (m .memories))) (x .op) (shape .width) x t read (m .memories)
-      (λ s at f. length-changed s q at f (m .memories)) refl)
-      refl
 
   -- ---- lanes that do not execute
 

@@ -1,5 +1,4 @@
 -- The faults of an instruction: their lanes execute and are lanes of the wave, no lane is of two kinds; and which kinds come together.
-use mathlib.Core.Path.{_≡_, refl}
 use mathlib.Core.Bool.{Bool, true, false, cond}
 use Prim.Native.Nat.{ℕ}
 use lib.ListN.{length, getD}

@@ -1,6 +1,5 @@
 -- The steps of a run, said of the run itself: step k is the instruction that a run of budget k stands before. By induction along the run.
-use mathlib.Core.Path.{_≡_, refl, sym, ap, _∙_, subst}
-use mathlib.Core.Bool.{true, false}
+use mathlib.Core.Path.{_≡_, refl, sym, ap, _∙_}
 use mathlib.Core.Logic.{⊎-elim}
 use mathlib.Core.List.{List, [], _∷_}
 use Prim.Native.Nat.{ℕ, zero, suc, _+_, _<_, _≤_}
@@ -13,7 +12,7 @@ use Rattle.faulting.specs.Kinds.{clear}
 use Rattle.replay.specs.declared.settings.Settings.{Settings}
 use Rattle.replay.specs.Machine.{Machine}
 use Rattle.replay.specs.Run.{Ran, endedOf, stepAt, runOf}
-use Rattle.replay.specs.Replay.{mostSteps, launchTest, resumeTest, Answered, runFrom, launchOf, launchMachine, resumeOf, stateMachine}
+use Rattle.replay.specs.Replay.{launchTest, resumeTest, Answered, runFrom, launchOf, launchMachine, resumeOf, stateMachine}
 use Rattle.runs.specs.Calls.{budgeted}
 use Rattle.replay.proofs.Runs.{at-ended, at-budget, at-fault, at-clear, steps-most}
 use Rattle.runs.proofs.Returns.{launchable, passes, right-length, resumable, launched, resumed, run-budgeted}

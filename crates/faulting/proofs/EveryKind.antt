@@ -1,7 +1,7 @@
 -- Every kind with its lanes, by the kinds' numbers: the list of any faults is a table of its numbers, 1 to the count of kinds, and each law
 -- is an induction over these.
 use mathlib.Core.Path.{_≡_, refl, sym, ap, _∙_, subst}
-use mathlib.Core.Bool.{Bool, true, false, _&&_, _||_, cond, and-true}
+use mathlib.Core.Bool.{Bool, true, false, _&&_, _||_, cond}
 use mathlib.Core.List.{List, [], _∷_}
 use Prim.Native.Nat.{ℕ, zero, suc, _+_, _-_, _≤_, _<_}
 use native.Mathlib.Omega.{arith}
@@ -210,6 +210,3 @@ pub barrier-lanes : (P : ℕ → Type 0) (lanes : ℕ) → P lanes → P 0 → (
 barrier-lanes P lanes p z =
     of-each-kind (λ (k set : ℕ). P set) (λ k. cond (eqb k 5) lanes 0)
     (λ k. cond-by P (eqb (suc k) 5) lanes 0 (λ e. p) (λ e. z)) (λ k. z)
-
-pub barrier-clear : (lanes : ℕ) → clear (ofBarrier lanes) ≡ eqb lanes 0
-barrier-clear lanes = and-true (eqb lanes 0)

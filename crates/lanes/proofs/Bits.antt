@@ -10,7 +10,7 @@ use native.Mathlib.Numerals.{add-one}
 use native.Mathlib.Omega.{arith}
 use lib.Bits.{bitAnd, bitOr, and-step, or-step, and-le-l, or-shifted-r, or-zero-r}
 use lib.Dec.{eqb, ltb, eqb·suc-suc}
-use lib.Pow.{pow-pos, pow-mono}
+use lib.Pow.{pow-pos}
 use borrow.Author.Tests.{lt-ltb, le-ltb, eq-eqb, ne-eqb}
 use Rattle.lanes.specs.Sets.{bit, without, first, only, setOf}
 
@@ -152,10 +152,6 @@ within-first-lt n k s l h = set-lt k s (λ i b. omega (arith, h i, first-past n 
 pub first-lt : (n : ℕ) → first n < 2 ^ n
 unfolding first
 first-lt n = omega (arith, pow-pos n)
-
-pub first-le : (m n : ℕ) → m ≤ n → first m ≤ first n
-unfolding first
-first-le m n h = let p : 2 ^ m ≤ 2 ^ n = pow-mono h in omega arith
 
 -- ---- the set that a test picks
 

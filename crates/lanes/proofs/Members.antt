@@ -10,7 +10,7 @@ use native.Mathlib.Decide.{decLt}
 use mathlib.Core.Logic.{dite}
 use Rattle.ground.proofs.Bools.{never}
 use Rattle.lanes.specs.Sets.{bit, has, without, first, only, setOf}
-use Rattle.lanes.proofs.Bits.{bit-le, set-ext, bit-and, bit-or, bit-without, bit-zero, bit-past, bit-first, bit-only, bit-set-of, set-of-same}
+use Rattle.lanes.proofs.Bits.{bit-le, set-ext, bit-and, bit-or, bit-without, bit-zero, bit-past, bit-first, bit-only, bit-set-of}
 
 bit-test : (x : ℕ) → x ≤ 1 → x ≡ cond (eqb x 1) 1 0
 bit-test zero h = refl
@@ -115,7 +115,3 @@ set-of-has n s b =
     ∙ dite (decLt i n)
     (λ h. rw (lt-ltb i n h) refl)
     (λ h. rw (le-ltb i n (omega arith)) (sym (has-past n s i b (omega arith)))))
-
--- sets of n lanes that agree below n are equal
-pub has-ext-below : (n a b : ℕ) → a < 2 ^ n → b < 2 ^ n → ((i : ℕ) → i < n → has a i ≡ has b i) → a ≡ b
-has-ext-below n a b ha hb h = sym (set-of-has n a ha) ∙ set-of-same n (has a) (has b) h ∙ set-of-has n b hb

@@ -14,7 +14,6 @@ use refusals::SETTING;
 use refusals::STATE;
 use wave::state::State;
 ghost use mathlib.Core.Path.{_≡_};
-ghost use lib.ListN.{length};
 ghost use Prim.Native.Nat.{_*_};
 ghost use Rattle.replay.specs.Replay.{settingsRight, readingOf, refusedUnless, thenTest, boundsTest, launchTest, resumeTest};
 

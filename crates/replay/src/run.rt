@@ -9,7 +9,6 @@ use wave::state::Hot;
 use wave::state::PATH_NUMBERS;
 use words::fetching::fetch_at;
 ghost use mathlib.Core.Path.{_≡_};
-ghost use lib.ListN.{length};
 ghost use Rattle.replay.specs.Machine.{machineOf};
 ghost use Rattle.replay.specs.Step.{registersIn};
 ghost use Rattle.replay.specs.Run.{endedAt, gone, runOf};

@@ -19,8 +19,7 @@ use words::fetching::control_in;
 ghost use mathlib.Core.Path.{_≡_};
 ghost use mathlib.Core.List.{List};
 ghost use Prim.Native.Nat.{ℕ};
-ghost use Rattle.wave.specs.Wave.{waveOf, predsOf};
-ghost use Rattle.words.specs.Fetching.{controlIn};
+ghost use Rattle.wave.specs.Wave.{predsOf};
 ghost use Rattle.replay.specs.Machine.{machineOf, named, withNamed, hotWith};
 ghost use Rattle.replay.specs.Step.{registersIn, ordinaryOf, stepped, stepOf};
 

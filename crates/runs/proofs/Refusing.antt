@@ -1,5 +1,5 @@
 -- A call is refused exactly where its tests refuse, with their refusal: a run answers no refusal of its own, by induction along it.
-use mathlib.Core.Path.{_≡_, refl, sym, ap, _∙_}
+use mathlib.Core.Path.{_≡_, refl, ap}
 use mathlib.Core.Logic.{_↔_}
 use mathlib.Core.List.{List}
 use Prim.Native.Nat.{ℕ}
@@ -9,30 +9,14 @@ use Rattle.refusals.specs.declared.Refusal.{Refusal}
 use Rattle.blocks.specs.declared.structure.Checked.{Checked}
 use Rattle.lanes.specs.Sets.{first}
 use Rattle.wave.specs.declared.state.State.{State}
-use Rattle.blocks.specs.Code.{codeOf}
-use Rattle.blocks.specs.Scan.{checkOf}
 use Rattle.compute.specs.Memory.{Memories, memories}
 use Rattle.replay.specs.declared.settings.Settings.{Settings}
 use Rattle.replay.specs.declared.answers.Outcome.{Outcome}
 use Rattle.replay.specs.declared.answers.Outcome.the-variants.{Refused}
 use Rattle.replay.specs.Machine.{Machine}
 use Rattle.replay.specs.Run.{Ran, runOf}
-use Rattle.replay.specs.Replay.{
-  boundsTest,
-  launchTest,
-  resumeTest,
-  Answered,
-  refusedCall,
-  byTest,
-  runFrom,
-  launchMachine,
-  notLaunched,
-  launchOf,
-  stateMachine,
-  resumeOf,
-}
+use Rattle.replay.specs.Replay.{launchTest, resumeTest, Answered, refusedCall, byTest, launchMachine, notLaunched, launchOf, stateMachine, resumeOf}
 use Rattle.replay.proofs.Runs.{run-induction}
-use Rattle.runs.proofs.Returns.{then-first, resumable, resumed}
 
 -- two cases of an enum are not equal
 other-outcome : _≡_ {A = ℕ} 0 1 → ⊥

@@ -1,7 +1,7 @@
 -- What is proved of reading and writing one instruction, over all words, places, instructions and outputs. Reading gives exactly the valid
 -- instructions whose words stand there (`reads`), and refuses exactly by the first rule broken (`refuses`); writing undoes reading, and
 -- reading undoes writing.
-use mathlib.Core.Path.{_≡_, refl, sym, _∙_, ap, subst}
+use mathlib.Core.Path.{_≡_, sym, _∙_, ap, subst}
 use mathlib.Core.Bool.{true}
 use mathlib.Core.List.{List, [], _++_}
 use mathlib.Core.Logic.{_↔_}

@@ -5,7 +5,7 @@ use borrow.Author.Tests.{not-true, not-false}
 use mathlib.Core.Path.{sym, _∙_}
 use lib.ListN.{length}
 use borrow.Author.Needs.{needs}
-use Rattle.body.specs.Body.{Parts, partsAt}
+use Rattle.body.specs.Body.{partsAt}
 use Rattle.body.specs.Layout.{mostKinds}
 use Rattle.body.proofs.Spelling.{too-many, Testing, testing-start, testing-stop, testing-next, testing-room, testing-end}
 use Rattle.body.proofs.faults_fit.Statement.{statement}
