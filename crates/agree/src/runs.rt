@@ -16,13 +16,13 @@ use crate::states::state_at;
 use key::answer::KeyAnswer;
 use key::write_key;
 use lanes::WIDEST;
-use replay::answers::Replayed;
+use replay::allowed::MOST_REGISTERS;
+use replay::allowed::MOST_WORDS;
 use replay::doors::launch;
 use replay::doors::resume;
-use replay::settings::MOST_REGISTERS;
-use replay::settings::MOST_WORDS;
-use replay::settings::Settings;
 use std::num::wrapping_add_usize;
+use stepping::answers::Replayed;
+use stepping::settings::Settings;
 
 // Where the words of a run's case begin, behind eleven numbers, and the state of a key's case, behind ten.
 const RUN_WORDS: usize = 44;

@@ -10,7 +10,7 @@ use packing::state_of;
 use packing::word_count;
 use packing::words_of;
 use refusals::Refusal;
-use replay::answers::Outcome;
+use stepping::answers::Outcome;
 use wave::state::State;
 use wave::state::whole;
 

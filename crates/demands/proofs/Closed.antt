@@ -18,8 +18,8 @@ use Rattle.compute.specs.Registers.{slot, byLane, gatherOf, writeLanes}
 use Rattle.compute.specs.Memory.{changesOf}
 use Rattle.compute.specs.Values.{resultsOf, predicateOf}
 use Rattle.compute.specs.Carrying.{faultsOf, afterOf, carriedOf}
-use Rattle.replay.specs.Step.{stepOf}
-use Rattle.replay.specs.Run.{runOf}
+use Rattle.stepping.specs.Step.{stepOf}
+use Rattle.stepping.specs.Run.{runOf}
 use Rattle.replay.specs.Replay.{mostSteps, launchOf}
 use Rattle.marked.specs.Table.{settings, t12}
 use Rattle.demands.specs.Steps.{Step, stepsOf}

@@ -9,12 +9,13 @@ use Rattle.blocks.specs.declared.structure.Checked.{Checked}
 use Rattle.blocks.specs.declared.structure.Checked.the-variants.{Fine}
 use Rattle.wave.specs.declared.state.State.{State}
 use Rattle.faulting.specs.Kinds.{clear}
-use Rattle.replay.specs.declared.settings.Settings.{Settings}
-use Rattle.replay.specs.Machine.{Machine}
-use Rattle.replay.specs.Run.{Ran, endedOf, stepAt, runOf}
-use Rattle.replay.specs.Replay.{launchTest, resumeTest, Answered, runFrom, launchOf, launchMachine, resumeOf, stateMachine}
+use Rattle.stepping.specs.declared.settings.Settings.{Settings}
+use Rattle.stepping.specs.Machine.{Machine}
+use Rattle.stepping.specs.Run.{Ran, endedOf, stepAt, runOf}
+use Rattle.stepping.specs.Answer.{Answered, runFrom, stateMachine}
+use Rattle.replay.specs.Replay.{launchTest, resumeTest, launchOf, launchMachine, resumeOf}
 use Rattle.runs.specs.Calls.{budgeted}
-use Rattle.replay.proofs.Runs.{at-ended, at-budget, at-fault, at-clear, steps-most}
+use Rattle.stepping.proofs.Runs.{at-ended, at-budget, at-fault, at-clear, steps-most}
 use Rattle.runs.proofs.Returns.{launchable, passes, right-length, resumable, launched, resumed, run-budgeted}
 use Rattle.runs.proofs.Breaking.{launch-passes}
 use Rattle.demands.specs.Steps.{Step, taken, stepsOf}

@@ -2,7 +2,7 @@
 use mathlib.Core.List.{List, [], _∷_}
 use Prim.Native.Nat.{ℕ, zero, suc}
 use Rattle.wave.specs.declared.state.State.{State}
-use Rattle.replay.specs.Replay.{stateMachine}
+use Rattle.stepping.specs.Answer.{stateMachine}
 use Rattle.runs.specs.Calls.{budgeted}
 use Rattle.demands.specs.Steps.{Step, taken}
 use Rattle.demands.specs.History.{Calls}

@@ -28,8 +28,8 @@ use Rattle.wave.specs.Layout.{blockNumbers, pathNumbers}
 use Rattle.faulting.specs.declared.faults.Faults.{Faults}
 use Rattle.faulting.specs.Kinds.{listed}
 use Rattle.faulting.proofs.EveryKind.{few-listed}
-use Rattle.replay.specs.declared.answers.Outcome.{Outcome}
-use Rattle.replay.specs.declared.answers.Replayed.{Replayed}
+use Rattle.stepping.specs.declared.answers.Outcome.{Outcome}
+use Rattle.stepping.specs.declared.answers.Replayed.{Replayed}
 use Rattle.key.specs.declared.answer.KeyAnswer.the-variants.{Wrote, Refused}
 use Rattle.key.specs.Key.{partsOf, keyed, bodyKey, outcomeKey, keyOf}
 use Rattle.key.specs.Putting.{room, kindsEnd, After, after, afterNumbers, kindNumbers, headNumbers, stateNumbers, numbersOf, Put, copied}

@@ -15,8 +15,8 @@ use Rattle.ground.proofs.Tests.{false-of}
 use Rattle.body.specs.Body.{Parts, bytesOfBody}
 use Rattle.body.specs.Layout.{fitsLayout}
 use Rattle.faulting.specs.declared.faults.Faults.{Faults}
-use Rattle.replay.specs.declared.answers.Outcome.{Outcome}
-use Rattle.replay.specs.declared.answers.Replayed.{Replayed}
+use Rattle.stepping.specs.declared.answers.Outcome.{Outcome}
+use Rattle.stepping.specs.declared.answers.Replayed.{Replayed}
 use Rattle.key.specs.declared.answer.KeyAnswer.{KeyAnswer}
 use Rattle.key.specs.declared.answer.KeyAnswer.the-variants.{Wrote, Refused}
 use Rattle.key.specs.Key.{partsOf, bodyKey, outcomeKey, keyOf}

@@ -21,12 +21,12 @@ use Rattle.fits.proofs.OpenBlocks.{AllSized, path-sized}
 use Rattle.faulting.specs.declared.faults.Faults.{Faults}
 use Rattle.faulting.specs.Kinds.{lanesOfKind}
 use Rattle.faulting.proofs.KindsApart.{Apart}
-use Rattle.replay.specs.declared.settings.Settings.{Settings}
-use Rattle.replay.specs.Machine.{Machine}
+use Rattle.stepping.specs.declared.settings.Settings.{Settings}
+use Rattle.stepping.specs.Machine.{Machine}
 use Rattle.replay.specs.Replay.{mostWords, readingOf}
 use Rattle.runs.proofs.Keeping.{inside}
 use Rattle.runs.proofs.Stopping.{FaultsAt}
-use Rattle.replay.proofs.FaultKinds.{Faulty, step-faulty, step-apart, Lanes, step-lanes}
+use Rattle.stepping.proofs.FaultKinds.{Faulty, step-faulty, step-apart, Lanes, step-lanes}
 use Rattle.runs.proofs.Returns.{Launchable, lanes-most, InOrder}
 use Rattle.body.specs.Body.{bodyFormat, setBytes}
 use Rattle.body.specs.Layout.{mostDepth, kindLists, blockFits, fitsLayout}

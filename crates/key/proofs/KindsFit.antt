@@ -16,7 +16,7 @@ use Rattle.faulting.specs.declared.faults.Faults.{Faults}
 use Rattle.faulting.specs.Kinds.{fault, kinds, clear, withLanes, listed, lanesOfKind}
 use Rattle.faulting.proofs.EveryKind.{upFrom, kindNumbers, table, every-table, none-listed, Only, those, only-listed}
 use Rattle.faulting.proofs.KindsApart.{Apart, at-device, at-local, dividing}
-use Rattle.replay.proofs.FaultKinds.{Faulty, at-work, at-barrier}
+use Rattle.stepping.proofs.FaultKinds.{Faulty, at-work, at-barrier}
 use Rattle.body.specs.Layout.{apart, kindLists, faultsFit}
 
 -- the kinds, and the lanes, of a list as a body has it

@@ -9,8 +9,8 @@ use Rattle.refusals.specs.declared.Refusal.{Refusal}
 use Rattle.body.specs.Body.{bytesOfBody}
 use Rattle.body.specs.Layout.{fitsLayout}
 use Rattle.faulting.specs.declared.faults.Faults.{Faults}
-use Rattle.replay.specs.declared.answers.Outcome.{Outcome}
-use Rattle.replay.specs.declared.answers.Replayed.{Replayed}
+use Rattle.stepping.specs.declared.answers.Outcome.{Outcome}
+use Rattle.stepping.specs.declared.answers.Replayed.{Replayed}
 use Rattle.key.specs.Key.{partsOf}
 
 pub data KeyBreaks (kernel : ℕ) (r : Replayed) (out : List ℕ) : Refusal → Type 0 where

@@ -26,13 +26,14 @@ use Rattle.compute.specs.Registers.{slot, byLane, gatherOf, writeLanes}
 use Rattle.compute.specs.Memory.{changesOf}
 use Rattle.compute.specs.Values.{resultsOf, predicateOf}
 use Rattle.compute.specs.Carrying.{faultsOf, afterOf, carriedOf}
-use Rattle.replay.specs.declared.settings.Settings.{Settings}
-use Rattle.replay.specs.declared.answers.Outcome.{Outcome}
-use Rattle.replay.specs.declared.answers.Outcome.the-variants.{OutOfBudget}
-use Rattle.replay.specs.Machine.{Machine}
-use Rattle.replay.specs.Step.{stepOf}
-use Rattle.replay.specs.Run.{Ran, runOf}
-use Rattle.replay.specs.Replay.{mostWords, mostSteps, ending, launchMachine, launchOf}
+use Rattle.stepping.specs.declared.settings.Settings.{Settings}
+use Rattle.stepping.specs.declared.answers.Outcome.{Outcome}
+use Rattle.stepping.specs.declared.answers.Outcome.the-variants.{OutOfBudget}
+use Rattle.stepping.specs.Machine.{Machine}
+use Rattle.stepping.specs.Step.{stepOf}
+use Rattle.stepping.specs.Run.{Ran, runOf}
+use Rattle.stepping.specs.Answer.{ending}
+use Rattle.replay.specs.Replay.{mostWords, mostSteps, launchMachine, launchOf}
 use Rattle.runs.proofs.Adding.{following, runs-add}
 use Rattle.runs.proofs.Returns.{Launchable, passes, launched as launch-run}
 use Rattle.numbers.specs.Numbers.{bytesOf, bytesOfAll}

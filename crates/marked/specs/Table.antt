@@ -14,9 +14,10 @@ use Rattle.words.specs.Reading.{readAt}
 use Rattle.arith.specs.Arith.{twoOf, addressOf}
 use Rattle.ground.specs.Lists.{tabulate}
 use Rattle.compute.specs.Registers.{slot}
-use Rattle.replay.specs.declared.settings.Settings.{Settings}
-use Rattle.replay.specs.declared.answers.Outcome.{Outcome}
-use Rattle.replay.specs.Replay.{Answered, mostSteps, launchOf}
+use Rattle.stepping.specs.declared.settings.Settings.{Settings}
+use Rattle.stepping.specs.declared.answers.Outcome.{Outcome}
+use Rattle.stepping.specs.Answer.{Answered}
+use Rattle.replay.specs.Replay.{mostSteps, launchOf}
 use Rattle.numbers.specs.Numbers.{bytesOfAll}
 use Rattle.body.specs.Layout.{longest}
 use Rattle.key.specs.declared.answer.KeyAnswer.{KeyAnswer}

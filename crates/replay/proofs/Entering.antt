@@ -4,41 +4,14 @@ use mathlib.Core.List.{List}
 use Prim.Native.Nat.{ℕ}
 use Rattle.refusals.specs.declared.Refusal.{Refusal}
 use Rattle.blocks.specs.declared.structure.Checked.{Checked}
-use Rattle.wave.specs.declared.state.Hot.{Hot}
 use Rattle.wave.specs.declared.state.State.{State}
-use Rattle.wave.specs.Layout.{arrayOf}
-use Rattle.wave.specs.Wave.{Held, held, waveOf, predsOf, hotOf, stateOf, launch, clear}
+use Rattle.wave.specs.Wave.{stateOf, launch, clear}
 use Rattle.compute.specs.Memory.{Memories, memories}
-use Rattle.replay.specs.declared.settings.Settings.{Settings}
-use Rattle.replay.specs.declared.answers.Replayed.{Replayed}
-use Rattle.replay.specs.declared.run.Stopped.{Stopped}
-use Rattle.replay.specs.Step.{launchedLanes}
-use Rattle.replay.specs.Run.{Ran, gone}
-use Rattle.replay.specs.Replay.{
-  Answered,
-  answered,
-  refusedAs,
-  ending,
-  byTest,
-  thenTest,
-  stateMachine,
-  runFrom,
-  filled,
-  localAfter,
-  launchMachine,
-}
-
--- an answer, of the numbers and the blocks that its state holds
-abbrev with-state : Stopped → List ℕ → List ℕ → List ℕ → Held → Answered
-with-state a regs device local x =
-    answered (record { outcome = a .outcome; steps = a .steps; state = record { hot = x .hot; blocks = x .blocks } }) regs device local
-
--- the answer of a run that stopped, its state made tidy
-pub ends-tidy :
-    (a : Stopped) (path : List ℕ) {r : Ran} {end : Hot} {tidied regs device local : List ℕ} → gone a path regs device local ≡ r →
-    held end tidied ≡ held (hotOf (waveOf (a .hot) path) (predsOf (a .hot))) (arrayOf (waveOf (a .hot) path .path)) →
-    with-state a regs device local (held end tidied) ≡ ending r
-ends-tidy a path stopped tidy = ap (with-state a _ _ _) tidy ∙ ap ending stopped
+use Rattle.stepping.specs.declared.settings.Settings.{Settings}
+use Rattle.stepping.specs.declared.answers.Replayed.{Replayed}
+use Rattle.stepping.specs.Step.{launchedLanes}
+use Rattle.stepping.specs.Answer.{Answered, answered, stateMachine, runFrom}
+use Rattle.replay.specs.Replay.{refusedAs, byTest, thenTest, filled, localAfter, launchMachine}
 
 -- ---- by the verdict v of a test
 module _ {v test : Checked} (says : v ≡ test) where

@@ -1,7 +1,1 @@
-pub mod Runs
-pub mod Turns
-pub mod FaultKinds
-pub mod Naming
-pub mod Stepping
 pub mod Entering
-pub mod OneAnswer

@@ -1,4 +1,1 @@
-pub mod Machine
-pub mod Step
-pub mod Run
 pub mod Replay

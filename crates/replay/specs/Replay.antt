@@ -14,12 +14,12 @@ use Rattle.wave.specs.declared.state.State.{State}
 use Rattle.wave.specs.Wave.{stateOf, launch, clear}
 use Rattle.fits.specs.FitsTest.{fitsTest}
 use Rattle.compute.specs.Memory.{Memories, memories}
-use Rattle.replay.specs.declared.settings.Settings.{Settings}
-use Rattle.replay.specs.declared.answers.Outcome.{Outcome}
-use Rattle.replay.specs.declared.answers.Replayed.{Replayed}
-use Rattle.replay.specs.Machine.{Machine, machineOf}
-use Rattle.replay.specs.Step.{launchedLanes}
-use Rattle.replay.specs.Run.{Ran, runOf}
+use Rattle.stepping.specs.declared.settings.Settings.{Settings}
+use Rattle.stepping.specs.declared.answers.Outcome.{Outcome}
+use Rattle.stepping.specs.declared.answers.Replayed.{Replayed}
+use Rattle.stepping.specs.Machine.{Machine}
+use Rattle.stepping.specs.Step.{launchedLanes}
+use Rattle.stepping.specs.Answer.{Answered, runFrom, stateMachine}
 
 -- ---- what is allowed
 abbrev pub mostRegisters : ℕ
@@ -76,17 +76,7 @@ stateTest s state code = refusedUnless (fitsTest code (readingOf s) (s .lanes) (
 abbrev pub resumeTest : Settings → State → List ℕ → List ℕ → Checked
 resumeTest s state code regs = thenTest (launchTest s code regs) (stateTest s state code)
 
--- ---- what a call answers, with the buffers as it leaves them
-pub record Answered : Type 0 where
-  pub outcome : Outcome
-  pub steps : ℕ
-  pub state : State
-  pub regs : List ℕ
-  pub memories : Memories
-
-abbrev pub answered : Replayed → List ℕ → List ℕ → List ℕ → Answered
-answered r regs device local =
-    record { outcome = r .outcome; steps = r .steps; state = r .state; regs = regs; memories = memories device local }
+-- ---- what a call answers
 
 abbrev pub refusedAs : Refusal → State → Replayed
 refusedAs r state = record { outcome = Outcome.Refused r; steps = 0; state = state }
@@ -95,24 +85,9 @@ refusedAs r state = record { outcome = Outcome.Refused r; steps = 0; state = sta
 abbrev pub refusedCall : Refusal → State → List ℕ → Memories → Answered
 refusedCall r state regs y = record { outcome = Outcome.Refused r; steps = 0; state = state; regs = regs; memories = y }
 
--- a run's answer: its state has zeros past its open blocks
-abbrev pub ending : Ran → Answered
-ending r =
-    record {
-      outcome = r .outcome;
-      steps = r .steps;
-      state = stateOf (r .end .wave) (r .end .preds);
-      regs = r .end .regs;
-      memories = r .end .memories;
-    }
-
 abbrev pub byTest : Checked → (Unit {0} → Answered) → State → List ℕ → Memories → Answered
 byTest Checked.Fine run state regs y = run tt
 byTest (Checked.Refused r) run state regs y = refusedCall r state regs y
-
--- the run from a machine, with the settings' budget
-abbrev pub runFrom : Settings → List ℕ → Machine → Answered
-runFrom s code m = ending (runOf s code (s .budget) m)
 
 -- ---- a launch
 -- local memory is filled with zeros
@@ -141,9 +116,6 @@ launchOf s code regs device local =
     byTest (launchTest s code regs) (λ (u : Unit {0}). runFrom s code (launchMachine s regs device local)) notLaunched regs (memories device local)
 
 -- ---- going on
-abbrev pub stateMachine : State → List ℕ → List ℕ → List ℕ → Machine
-stateMachine state regs device local = machineOf (state .hot) (state .blocks) regs device local
-
 unfoldable pub resumeOf : Settings → State → List ℕ → List ℕ → List ℕ → List ℕ → Answered
 resumeOf s state code regs device local =
     byTest (resumeTest s state code regs) (λ (u : Unit {0}). runFrom s code (stateMachine state regs device local)) state regs (memories device local)

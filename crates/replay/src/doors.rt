@@ -1,20 +1,20 @@
 // The ways into a replay: a launch, and going on from a state.
-use crate::answers::Outcome;
-use crate::answers::Replayed;
 use crate::filling::fill_with;
 use crate::refusing::test_launch;
 use crate::refusing::test_resume;
-use crate::run::go;
-use crate::settings::Settings;
 use blocks::structure::Checked;
 use refusals::Refusal;
+use stepping::answers::Outcome;
+use stepping::answers::Replayed;
+use stepping::run::run_from;
+use stepping::settings::Settings;
 use wave::launch::launched;
 use wave::launch::not_launched;
 use wave::state::State;
-use wave::state::tidy;
 ghost use mathlib.Core.Path.{_≡_};
-ghost use Rattle.replay.specs.Step.{registersIn};
-ghost use Rattle.replay.specs.Replay.{refusedAs, answered, localAfter, stateMachine, runFrom, launchOf, resumeOf};
+ghost use Rattle.stepping.specs.Step.{registersIn};
+ghost use Rattle.stepping.specs.Answer.{answered};
+ghost use Rattle.replay.specs.Replay.{refusedAs, localAfter, launchOf, resumeOf};
 
 // What local memory holds when a launched run starts.
 pub const FILL: u32 = 0;
@@ -27,32 +27,6 @@ fn refused(refusal: Refusal, state: State) -> Replayed
         outcome: Outcome::Refused(refusal),
         steps: 0,
         state,
-    }
-}
-
-// The run from a state, with no test.
-fn run_from(
-    settings: Settings,
-    state: State,
-    code: &[u32],
-    regs: &mut [u32],
-    device: &mut [u32],
-    local: &mut [u32],
-) -> Replayed
-    ensures { λ r. ⌜
-        answered r (registersIn settings (now (regs .exit))) (now (device .exit)) (now (local .exit))
-        ≡ runFrom settings (now (code .entry)) (stateMachine state (registersIn settings (now (regs .entry))) (now (device .entry)) (now (local .entry))) ⌝ }
-{
-    let mut blocks = state.blocks;
-    let hot = state.hot;
-    let a = go(settings, hot, code, &mut blocks, regs, device, local);
-    let outcome = a.outcome;
-    let steps = a.steps;
-    let end = tidy(a.hot, &mut blocks);
-    Replayed {
-        outcome,
-        steps,
-        state: State { hot: end, blocks },
     }
 }
 

@@ -1,8 +1,7 @@
 // The refusals of a run, in their order.
-use crate::settings::MOST_REGISTERS;
-use crate::settings::MOST_STEPS;
-use crate::settings::MOST_WORDS;
-use crate::settings::Settings;
+use crate::allowed::MOST_REGISTERS;
+use crate::allowed::MOST_STEPS;
+use crate::allowed::MOST_WORDS;
 use blocks::item::Reading;
 use blocks::structure::Checked;
 use blocks::structure::check;
@@ -12,6 +11,7 @@ use refusals::LONG_CODE;
 use refusals::Refusal;
 use refusals::SETTING;
 use refusals::STATE;
+use stepping::settings::Settings;
 use wave::state::State;
 ghost use mathlib.Core.Path.{_≡_};
 ghost use Prim.Native.Nat.{_*_};

@@ -14,26 +14,14 @@ use Rattle.blocks.specs.declared.structure.Checked.{Checked}
 use Rattle.wave.specs.declared.state.State.{State}
 use Rattle.faulting.specs.Kinds.{clear}
 use Rattle.compute.specs.Memory.{Memories, memories}
-use Rattle.replay.specs.declared.settings.Settings.{Settings}
-use Rattle.replay.specs.declared.answers.Outcome.{Outcome}
-use Rattle.replay.specs.Machine.{Machine}
-use Rattle.replay.specs.Run.{Ran, endedOf, stepAt, runOf}
-use Rattle.replay.specs.Replay.{
-  mostSteps,
-  launchTest,
-  resumeTest,
-  Answered,
-  ending,
-  byTest,
-  runFrom,
-  notLaunched,
-  launchMachine,
-  stateMachine,
-  launchOf,
-  resumeOf,
-}
+use Rattle.stepping.specs.declared.settings.Settings.{Settings}
+use Rattle.stepping.specs.declared.answers.Outcome.{Outcome}
+use Rattle.stepping.specs.Machine.{Machine}
+use Rattle.stepping.specs.Run.{Ran, endedOf, stepAt, runOf}
+use Rattle.stepping.specs.Answer.{Answered, ending, runFrom, stateMachine}
+use Rattle.replay.specs.Replay.{mostSteps, launchTest, resumeTest, byTest, notLaunched, launchMachine, launchOf, resumeOf}
 use Rattle.runs.specs.Calls.{budgeted, resumedWith, added}
-use Rattle.replay.proofs.Runs.{at-ended, at-budget, at-fault, at-clear}
+use Rattle.stepping.proofs.Runs.{at-ended, at-budget, at-fault, at-clear}
 use Rattle.runs.proofs.Adding.{following, runs-add}
 use Rattle.runs.proofs.Returns.{run-budgeted, launch-adds, resume-adds}
 use Rattle.replay_capture.specs.Starting.{startOf, stopped, goneOn, finished}

@@ -3,9 +3,10 @@ use Prim.Native.Nat.{ℕ, zero, suc}
 use mathlib.Core.Bool.{Bool, true, false}
 use mathlib.Core.List.{List}
 use Rattle.wave.specs.declared.state.State.{State}
-use Rattle.replay.specs.declared.settings.Settings.{Settings}
-use Rattle.replay.specs.declared.answers.Outcome.{Outcome}
-use Rattle.replay.specs.Replay.{Answered, launchOf, resumeOf}
+use Rattle.stepping.specs.declared.settings.Settings.{Settings}
+use Rattle.stepping.specs.declared.answers.Outcome.{Outcome}
+use Rattle.stepping.specs.Answer.{Answered}
+use Rattle.replay.specs.Replay.{launchOf, resumeOf}
 use Rattle.runs.specs.Calls.{resumedWith, added}
 
 -- a launch, or going on with the state

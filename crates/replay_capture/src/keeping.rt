@@ -4,8 +4,8 @@ use captures::answer::Head;
 use captures::answer::WriteAnswer;
 use packing::word_count;
 use packing::words_of;
-use replay::answers::Outcome;
-use replay::answers::Replayed;
+use stepping::answers::Outcome;
+use stepping::answers::Replayed;
 
 // Where the names of the files to write stand among the arguments.
 const OUT: usize = 2;

@@ -14,8 +14,8 @@ use key::write_key;
 use libc::STDOUT_FILENO;
 use numbers::smaller;
 use packing::state_of;
-use replay::answers::Replayed;
-use replay::settings::Settings;
+use stepping::answers::Replayed;
+use stepping::settings::Settings;
 
 // More than the bytes of the longest report.
 const REPORT_ROOM: usize = 8192;

@@ -3,12 +3,12 @@ use Prim.Native.Nat.{ℕ, _+_}
 use mathlib.Core.Path.{_≡_, refl, ap, sym, _∙_}
 use mathlib.Core.List.{List}
 use native.Mathlib.Nat.{zero-add, suc-add}
-use Rattle.replay.specs.declared.settings.Settings.{Settings}
-use Rattle.replay.specs.declared.answers.Outcome.{Outcome}
-use Rattle.replay.specs.declared.answers.Outcome.the-variants.{Ended, OutOfBudget, Fault, Refused}
-use Rattle.replay.specs.Machine.{Machine}
-use Rattle.replay.specs.Run.{Ran, later, runOf}
-use Rattle.replay.proofs.Runs.{at-ended, at-fault, at-clear, later-later, later-zero, run-induction}
+use Rattle.stepping.specs.declared.settings.Settings.{Settings}
+use Rattle.stepping.specs.declared.answers.Outcome.{Outcome}
+use Rattle.stepping.specs.declared.answers.Outcome.the-variants.{Ended, OutOfBudget, Fault, Refused}
+use Rattle.stepping.specs.Machine.{Machine}
+use Rattle.stepping.specs.Run.{Ran, later, runOf}
+use Rattle.stepping.proofs.Runs.{at-ended, at-fault, at-clear, later-later, later-zero, run-induction}
 
 -- what a later run makes of an earlier answer: it goes on only where the budget ran out
 abbrev pub following : Outcome → Ran → Ran → Ran

@@ -9,7 +9,7 @@ use borrow.Author.Tests.{leb-true, eqb-true, le-leb}
 use Rattle.ground.proofs.Bools.{and-left, and-right}
 use Rattle.ground.proofs.Tests.{or-cases}
 use Rattle.lanes.specs.Sets.{widest}
-use Rattle.replay.specs.declared.settings.Settings.{Settings}
+use Rattle.stepping.specs.declared.settings.Settings.{Settings}
 use Rattle.replay.specs.Replay.{mostRegisters, mostSteps, settingsRight}
 use Rattle.runs.specs.Refusals.{Allowed}
 

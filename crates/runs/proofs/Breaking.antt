@@ -28,8 +28,8 @@ use Rattle.fits.specs.FitsTest.{fitsTest}
 use Rattle.fits.specs.Opens.{StateFits}
 use Rattle.fits.proofs.Fitting.{fits-test}
 use Rattle.fits.proofs.Opens.{state-fits-if}
-use Rattle.replay.specs.declared.settings.Settings.{Settings}
-use Rattle.replay.specs.declared.answers.Outcome.the-variants.{Refused}
+use Rattle.stepping.specs.declared.settings.Settings.{Settings}
+use Rattle.stepping.specs.declared.answers.Outcome.the-variants.{Refused}
 use Rattle.replay.specs.Replay.{mostWords, settingsRight, readingOf, thenTest, refusedUnless, boundsTest, launchTest, resumeTest, launchOf, resumeOf}
 use Rattle.runs.specs.Refusals.{Bounded, BoundsBreak, setting, code-length, buffer-length}
 use Rattle.runs.specs.Refusals.{LaunchBreaks, in-bounds, in-code, ResumeBreaks, in-launch, in-state}

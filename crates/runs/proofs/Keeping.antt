@@ -33,13 +33,14 @@ use Rattle.fits.proofs.Keeps.{active-launched}
 use Rattle.fits.proofs.Stays.{control-keeps, onward-keeps}
 use Rattle.faulting.specs.Kinds.{clear}
 use Rattle.compute.proofs.Carrying.{other-bits, length-regs}
-use Rattle.replay.specs.declared.settings.Settings.{Settings}
-use Rattle.replay.specs.Machine.{Machine, named, withNamed}
-use Rattle.replay.specs.Step.{shapeOf, launchedOf, lanesOf, computed, waveBy, faultsIn, carriedBy, stepOf}
-use Rattle.replay.specs.Run.{endedOf, stepAt, runOf}
+use Rattle.stepping.specs.declared.settings.Settings.{Settings}
+use Rattle.stepping.specs.Machine.{Machine, named, withNamed}
+use Rattle.stepping.specs.Step.{shapeOf, launchedOf, lanesOf, computed, waveBy, faultsIn, carriedBy, stepOf}
+use Rattle.stepping.specs.Run.{endedOf, stepAt, runOf}
 use Rattle.replay.specs.Replay.{mostWords}
-use Rattle.replay.proofs.Naming.{lent-to, named-fits, with-named-fits}
-use Rattle.replay.proofs.Runs.{run-induction}
+use Rattle.stepping.proofs.Naming.{lent-to}
+use Rattle.runs.proofs.NamedLanes.{named-fits, with-named-fits}
+use Rattle.stepping.proofs.Runs.{run-induction}
 
 -- a wave that fits does so with any predicates of launched lanes
 other-preds : (code : List ℕ) (by : Reading) (n : ℕ) (w : Wave) (ps qs : Preds) → PredsFit (first n) qs → WaveFits code by n w ps

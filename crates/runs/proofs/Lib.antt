@@ -1,5 +1,6 @@
 pub mod Allowing
 pub mod Adding
+pub mod NamedLanes
 pub mod Keeping
 pub mod Stopping
 pub mod Returns

@@ -10,13 +10,14 @@ use Rattle.blocks.specs.declared.structure.Checked.{Checked}
 use Rattle.lanes.specs.Sets.{first}
 use Rattle.wave.specs.declared.state.State.{State}
 use Rattle.compute.specs.Memory.{Memories, memories}
-use Rattle.replay.specs.declared.settings.Settings.{Settings}
-use Rattle.replay.specs.declared.answers.Outcome.{Outcome}
-use Rattle.replay.specs.declared.answers.Outcome.the-variants.{Refused}
-use Rattle.replay.specs.Machine.{Machine}
-use Rattle.replay.specs.Run.{Ran, runOf}
-use Rattle.replay.specs.Replay.{launchTest, resumeTest, Answered, refusedCall, byTest, launchMachine, notLaunched, launchOf, stateMachine, resumeOf}
-use Rattle.replay.proofs.Runs.{run-induction}
+use Rattle.stepping.specs.declared.settings.Settings.{Settings}
+use Rattle.stepping.specs.declared.answers.Outcome.{Outcome}
+use Rattle.stepping.specs.declared.answers.Outcome.the-variants.{Refused}
+use Rattle.stepping.specs.Machine.{Machine}
+use Rattle.stepping.specs.Run.{Ran, runOf}
+use Rattle.stepping.specs.Answer.{Answered, stateMachine}
+use Rattle.replay.specs.Replay.{launchTest, resumeTest, refusedCall, byTest, launchMachine, notLaunched, launchOf, resumeOf}
+use Rattle.stepping.proofs.Runs.{run-induction}
 
 -- two cases of an enum are not equal
 other-outcome : _≡_ {A = ℕ} 0 1 → ⊥

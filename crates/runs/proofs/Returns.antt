@@ -26,36 +26,14 @@ use Rattle.wave.proofs.View.{wave-in}
 use Rattle.fits.proofs.Fitting.{fits-test}
 use Rattle.fits.proofs.Stays.{path-room, launch-fits, state-fits}
 use Rattle.compute.specs.Memory.{Memories}
-use Rattle.replay.specs.declared.settings.Settings.{Settings}
-use Rattle.replay.specs.declared.answers.Outcome.{Outcome}
-use Rattle.replay.specs.declared.answers.Outcome.the-variants.{Ended, OutOfBudget}
-use Rattle.replay.specs.Machine.{Machine}
-use Rattle.replay.specs.Step.{launchedLanes, stepOf}
-use Rattle.replay.specs.Run.{Ran, stop, later, unless, endedOf, stepAt, onward, runOf}
-use Rattle.replay.specs.Replay.{
-  mostRegisters,
-  mostSteps,
-  mostWords,
-  settingsRight,
-  readingOf,
-  thenTest,
-  refusedUnless,
-  settingTest,
-  lengthTest,
-  bufferTest,
-  stateTest,
-  boundsTest,
-  launchTest,
-  resumeTest,
-  Answered,
-  ending,
-  byTest,
-  runFrom,
-  launchMachine,
-  launchOf,
-  stateMachine,
-  resumeOf,
-}
+use Rattle.stepping.specs.declared.settings.Settings.{Settings}
+use Rattle.stepping.specs.declared.answers.Outcome.{Outcome}
+use Rattle.stepping.specs.declared.answers.Outcome.the-variants.{Ended, OutOfBudget}
+use Rattle.stepping.specs.Machine.{Machine}
+use Rattle.stepping.specs.Step.{launchedLanes, stepOf}
+use Rattle.stepping.specs.Run.{Ran, stop, later, unless, endedOf, stepAt, onward, runOf}
+use Rattle.stepping.specs.Answer.{Answered, ending, runFrom, stateMachine}
+use Rattle.replay.specs.Replay.{mostRegisters, mostSteps, mostWords, settingsRight, readingOf, thenTest, refusedUnless, settingTest, lengthTest, bufferTest, stateTest, boundsTest, launchTest, resumeTest, byTest, launchMachine, launchOf, resumeOf}
 use Rattle.runs.specs.Calls.{budgeted, resumedWith, added}
 use Rattle.runs.proofs.Allowing.{among-width, right-allowed}
 use Rattle.runs.proofs.Adding.{following, runs-add}

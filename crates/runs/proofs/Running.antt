@@ -30,15 +30,16 @@ use Rattle.fits.proofs.Stays.{path-room, ready-there}
 use Rattle.fits.proofs.Opens.{depth-room}
 use Rattle.compute.specs.Carrying.{inShape}
 use Rattle.compute.proofs.Carrying.{carried-in}
-use Rattle.replay.specs.declared.settings.Settings.{Settings}
-use Rattle.replay.specs.Machine.{Machine}
-use Rattle.replay.specs.Step.{shapeOf, stepOf}
-use Rattle.replay.specs.Run.{endedOf, stepAt, runOf}
-use Rattle.replay.specs.Replay.{mostWords, readingOf, runFrom, launchMachine, launchOf, stateMachine, resumeOf}
+use Rattle.stepping.specs.declared.settings.Settings.{Settings}
+use Rattle.stepping.specs.Machine.{Machine}
+use Rattle.stepping.specs.Step.{shapeOf, stepOf}
+use Rattle.stepping.specs.Run.{endedOf, stepAt, runOf}
+use Rattle.stepping.specs.Answer.{runFrom, stateMachine}
+use Rattle.replay.specs.Replay.{mostWords, readingOf, launchMachine, launchOf, resumeOf}
 use Rattle.runs.specs.Refusals.{Bounded}
 use Rattle.runs.specs.Running.{ComesBy, at-once, further, lentOf, Instructed}
 use Rattle.runs.proofs.Allowing.{allowed-narrow}
-use Rattle.replay.proofs.Runs.{run-induction}
+use Rattle.stepping.proofs.Runs.{run-induction}
 use Rattle.runs.proofs.Keeping.{inside, found-instruction, step-keeps, step-long}
 use Rattle.runs.proofs.Returns.{Launchable, launchable, lanes-most, InOrder, launch-in-order, given-in-order, launched, resumed}
 use Rattle.runs.proofs.Breaking.{launch-passes, state-fit-if, resume-passes}

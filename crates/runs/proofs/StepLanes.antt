@@ -27,9 +27,9 @@ use Rattle.compute.specs.Carrying.{Outcome, inShape}
 use Rattle.runs.specs.Results.{register, rdOf, reachOf, resultOf, Changes}
 use Rattle.compute.proofs.Carrying.{control}
 use Rattle.runs.proofs.LaneByLane.{others-as-before, result-in-rd, bit-in-predicate, memory-as-before, highest-stays, word-as-before}
-use Rattle.replay.specs.declared.settings.Settings.{Settings}
-use Rattle.replay.specs.Machine.{Machine, named, withNamed}
-use Rattle.replay.specs.Step.{shapeOf, launchedOf, lanesOf, computed, faultsBy, carriedBy, stepOf}
+use Rattle.stepping.specs.declared.settings.Settings.{Settings}
+use Rattle.stepping.specs.Machine.{Machine, named, withNamed}
+use Rattle.stepping.specs.Step.{shapeOf, launchedOf, lanesOf, computed, faultsBy, carriedBy, stepOf}
 use Rattle.runs.specs.Running.{lentOf}
 
 -- a predicate that was given lanes has them

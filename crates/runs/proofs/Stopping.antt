@@ -6,11 +6,11 @@ use Prim.Native.Nat.{ℕ}
 use native.Mathlib.Omega.{arith}
 use Rattle.faulting.specs.declared.faults.Faults.{Faults}
 use Rattle.faulting.specs.Kinds.{clear}
-use Rattle.replay.specs.declared.settings.Settings.{Settings}
-use Rattle.replay.specs.declared.answers.Outcome.the-variants.{Ended, OutOfBudget, Fault}
-use Rattle.replay.specs.Machine.{Machine}
-use Rattle.replay.specs.Run.{Ran, endedOf, stepAt, runOf}
-use Rattle.replay.proofs.Runs.{run-induction}
+use Rattle.stepping.specs.declared.settings.Settings.{Settings}
+use Rattle.stepping.specs.declared.answers.Outcome.the-variants.{Ended, OutOfBudget, Fault}
+use Rattle.stepping.specs.Machine.{Machine}
+use Rattle.stepping.specs.Run.{Ran, endedOf, stepAt, runOf}
+use Rattle.stepping.proofs.Runs.{run-induction}
 
 pub same-faults : (f g : Faults) → Fault f ≡ Fault g → f ≡ g
 same-faults f g e = cc

@@ -1,8 +1,9 @@
 -- Calls that follow one another: the budget changes, and each goes on from what the one before answered.
 use mathlib.Core.List.{List}
 use Prim.Native.Nat.{ℕ, _+_}
-use Rattle.replay.specs.declared.settings.Settings.{Settings}
-use Rattle.replay.specs.Replay.{Answered, resumeOf}
+use Rattle.stepping.specs.declared.settings.Settings.{Settings}
+use Rattle.stepping.specs.Answer.{Answered}
+use Rattle.replay.specs.Replay.{resumeOf}
 
 -- the settings, with another budget
 abbrev pub budgeted : ℕ → Settings → Settings

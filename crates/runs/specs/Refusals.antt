@@ -10,7 +10,7 @@ use Rattle.refusals.specs.Table.{Rule, broken}
 use Rattle.blocks.specs.Nesting.{Nested, Broken}
 use Rattle.wave.specs.declared.state.State.{State}
 use Rattle.fits.specs.Opens.{StateFits}
-use Rattle.replay.specs.declared.settings.Settings.{Settings}
+use Rattle.stepping.specs.declared.settings.Settings.{Settings}
 use Rattle.replay.specs.Replay.{mostRegisters, mostSteps, mostWords, readingOf}
 
 -- the settings that are allowed

@@ -21,10 +21,10 @@ use Rattle.wave.specs.Ready.{Ready}
 use Rattle.faulting.specs.Kinds.{clear}
 use Rattle.compute.specs.Operands.{Lent, operandsOf}
 use Rattle.compute.specs.Carrying.{inShape, havingRead}
-use Rattle.replay.specs.declared.settings.Settings.{Settings}
-use Rattle.replay.specs.Machine.{Machine, named}
-use Rattle.replay.specs.Step.{shapeOf, launchedLanes, computed}
-use Rattle.replay.specs.Run.{endedOf, stepAt}
+use Rattle.stepping.specs.declared.settings.Settings.{Settings}
+use Rattle.stepping.specs.Machine.{Machine, named}
+use Rattle.stepping.specs.Step.{shapeOf, launchedLanes, computed}
+use Rattle.stepping.specs.Run.{endedOf, stepAt}
 
 -- a run from one machine comes by another after so many steps, whatever its budget, if that is enough
 pub data ComesBy (s : Settings) (code : List ℕ) : ℕ → Machine → Machine → Type 0 where

@@ -1,6 +1,7 @@
 -- By the verdict of the tests: the refusal, or local memory filled and the run from the launched state.
 use mathlib.Core.Path.{ap, _∙_}
-use Rattle.replay.specs.Replay.{refusedAs, answered, launchOf}
+use Rattle.stepping.specs.Answer.{answered}
+use Rattle.replay.specs.Replay.{refusedAs, launchOf}
 use Rattle.replay.proofs.Entering.{refused-by, run-by, launched-run, unfilled, full}
 use borrow.Author.Needs.{needs}
 use Rattle.replay.proofs.doors.launch.Statement.{statement}

@@ -5,8 +5,8 @@ use native.Mathlib.Omega.{arith}
 use lib.ListN.{length}
 use borrow.Author.Needs.{needs}
 use borrow.Author.Tests.{not-true, not-false}
-use Rattle.replay.specs.declared.settings.Settings.{Settings}
-use Rattle.replay.specs.Replay.{Answered, answered}
+use Rattle.stepping.specs.declared.settings.Settings.{Settings}
+use Rattle.stepping.specs.Answer.{Answered, answered}
 use Rattle.replay_capture.specs.Starting.{startOf, finished}
 use Rattle.replay_capture.proofs.Slices.{Going, begun, gone-further, spent, over}
 use Rattle.replay_capture.proofs.running.run_in_slices.Statement.{statement}

@@ -1,0 +1,117 @@
+// One step of the wave: an instruction carried out by the executing lanes.
+use crate::settings::Settings;
+use compute::Shape;
+use compute::carry_out;
+use faulting::faults::Faults;
+use faulting::faults::is_clear;
+use faulting::faults::of_barrier;
+use lanes::Lanes;
+use lanes::first;
+use wave::control::control;
+use wave::rules::going::onward_by;
+use wave::rules::guarding::executing;
+use wave::state::Hot;
+use wave::state::PATH_NUMBERS;
+use wave::state::whole;
+use words::fetching::ControlIn;
+use words::fetching::Fetched;
+use words::fetching::control_in;
+ghost use mathlib.Core.Path.{_≡_};
+ghost use mathlib.Core.List.{List};
+ghost use Prim.Native.Nat.{ℕ};
+ghost use Rattle.wave.specs.Wave.{predsOf};
+ghost use Rattle.stepping.specs.Machine.{machineOf, named, withNamed, hotWith};
+ghost use Rattle.stepping.specs.Step.{registersIn, ordinaryOf, stepped, stepOf};
+
+// After a step: the faults, and the hot numbers.
+pub struct StepAnswer {
+    pub faults: Faults,
+    pub hot: Hot,
+}
+
+// The set of predicate `k`; none where there is no such predicate.
+fn named_set(k: u8, h: Hot) -> Lanes
+    ensures { λ r. ⌜ r ≡ named k (predsOf h) ⌝ }
+{
+    match k {
+        1 => h.p1,
+        2 => h.p2,
+        3 => h.p3,
+        _ => 0,
+    }
+}
+
+// The hot numbers, with `set` for predicate `k`.
+fn with_named(k: u8, set: Lanes, h: Hot) -> Hot
+    ensures { λ r. ⌜ r ≡ hotWith h (withNamed k set (predsOf h)) ⌝ }
+{
+    let mut n = h;
+    match k {
+        1 => n.p1 = set,
+        2 => n.p2 = set,
+        3 => n.p3 = set,
+        _ => {}
+    }
+    n
+}
+
+// An instruction that is no control instruction, by the lanes t: on by its words, or where some lane faults, as before it.
+fn ordinary(
+    x: Fetched,
+    t: Lanes,
+    settings: Settings,
+    h: Hot,
+    regs: &mut [u32],
+    device: &mut [u32],
+    local: &mut [u32],
+) -> StepAnswer
+    ensures { λ r. ⌜ ((blocks : List ℕ) →
+        stepped r blocks (registersIn settings (now (regs .exit))) (now (device .exit)) (now (local .exit))
+        ≡ ordinaryOf settings x t (machineOf h blocks (registersIn settings (now (regs .entry))) (now (device .entry)) (now (local .entry)))) ⌝ }
+{
+    let instr = x.instr;
+    let rd = instr.rd;
+    let shape = Shape {
+        width: settings.width,
+        registers: settings.registers,
+    };
+    let c = carry_out(instr, t, named_set(rd, h), shape, regs, device, local);
+    let faults = c.faults;
+    if is_clear(faults) {
+        let n = onward_by(x.words, h);
+        let hot = with_named(rd, c.predicate, n);
+        return StepAnswer { faults, hot };
+    }
+    StepAnswer { faults, hot: h }
+}
+
+// One step. The machine afterwards is what `stepOf` says; a fault leaves it as it was.
+pub(crate) fn step(
+    x: Fetched,
+    settings: Settings,
+    h: Hot,
+    blocks: &mut [u32; PATH_NUMBERS],
+    regs: &mut [u32],
+    device: &mut [u32],
+    local: &mut [u32],
+) -> StepAnswer
+    ensures { λ r. ⌜
+        stepped r (now (blocks .exit)) (registersIn settings (now (regs .exit))) (now (device .exit)) (now (local .exit))
+        ≡ stepOf settings x (machineOf h (now (blocks .entry)) (registersIn settings (now (regs .entry))) (now (device .entry)) (now (local .entry))) ⌝ }
+{
+    let instr = x.instr;
+    let guard = instr.guard;
+    let op = instr.op;
+    let t = executing(guard, h);
+    let kind = control_in(op);
+    match kind {
+        ControlIn::Control(o) => {
+            whole(blocks);
+            let a = control(o, t, first(settings.lanes), h, blocks);
+            let hot = a.hot;
+            let faults = of_barrier(a.barrier);
+            StepAnswer { faults, hot }
+        }
+        ControlIn::Other => ordinary(x, t, settings, h, regs, device, local),
+    }
+}
