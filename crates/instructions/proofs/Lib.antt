@@ -1,5 +1,2 @@
-pub mod Lookup
-pub mod Parts
-pub mod Rows
 pub mod PastRegisters
 pub mod OneAnswer

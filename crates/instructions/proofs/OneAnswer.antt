@@ -7,33 +7,12 @@ use Rattle.instructions.specs.declared.instr.Op.{Op}
 use Rattle.instructions.specs.declared.forms.Limits.{Limits}
 use Rattle.instructions.specs.declared.forms.Second.{Second}
 use Rattle.instructions.specs.declared.registers.Registers.{Registers}
-use Rattle.instructions.specs.declared.table.FoundOp.{FoundOp}
-use Rattle.instructions.specs.Table.{opOf, opcodeOf, modifierOf, find, has, inRegisters, memoryAndControl}
 use Rattle.instructions.specs.Forms.{limitsOf, sizeOf, fits, valid}
 use Rattle.instructions.specs.Registers.{registersOf, registersBelow}
 
 -- two results that equal one thing
 pub one : {A : Type 0} {r u x : A} → r ≡ x → u ≡ x → r ≡ u
 one p q = p ∙ sym q
-
--- ---- the table
-pub op-of-one : (opcode modifier : ℕ) (r u : FoundOp) → r ≡ opOf opcode modifier → u ≡ opOf opcode modifier → r ≡ u
-op-of-one opcode modifier r u p q = one p q
-
-pub register-op-one :
-    (opcode modifier : ℕ) (r u : FoundOp) → r ≡ find (has opcode modifier) inRegisters → u ≡ find (has opcode modifier) inRegisters → r ≡ u
-register-op-one opcode modifier r u p q = one p q
-
-pub memory-or-control-op-one :
-    (opcode modifier : ℕ) (r u : FoundOp) → r ≡ find (has opcode modifier) memoryAndControl → u ≡ find (has opcode modifier) memoryAndControl →
-    r ≡ u
-memory-or-control-op-one opcode modifier r u p q = one p q
-
-pub opcode-of-one : (op : Op) (r u : ℕ) → r ≡ opcodeOf op → u ≡ opcodeOf op → r ≡ u
-opcode-of-one op r u p q = one p q
-
-pub modifier-of-one : (op : Op) (r u : ℕ) → r ≡ modifierOf op → u ≡ modifierOf op → r ≡ u
-modifier-of-one op r u p q = one p q
 
 -- ---- the forms
 pub limits-of-one : (op : Op) (r u : Limits) → r ≡ limitsOf op → u ≡ limitsOf op → r ≡ u

@@ -1,4 +1,2 @@
-pub mod Table
-pub mod Named
 pub mod Forms
 pub mod Registers

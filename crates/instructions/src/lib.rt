@@ -1,5 +1,4 @@
-// The instruction, apart from its words: the table of operations, the forms with their limits, and which fields are registers.
+// The instruction, apart from its words: the operations, the forms with their limits, and which fields are registers.
 pub mod forms;
 pub mod instr;
 pub mod registers;
-pub mod table;

@@ -9,7 +9,7 @@ use Rattle.ground.specs.Tests.{sameList, allOf}
 use Rattle.ground.proofs.Tests.{same-true}
 use Rattle.instructions.specs.declared.instr.Op.{Op}
 use Rattle.instructions.specs.declared.instr.Instr.{Instr}
-use Rattle.instructions.specs.Table.{operations}
+use Rattle.opcodes.specs.Table.{operations}
 use Rattle.naming.specs.declared.operands.Fields.{Fields}
 use Rattle.naming.specs.Bytes.{ascii}
 use Rattle.naming.specs.Names.{nameOf}

@@ -11,7 +11,7 @@ use Rattle.ground.specs.Tests.{allOf}
 use Rattle.instructions.specs.declared.instr.Op.{Op}
 use Rattle.instructions.specs.declared.instr.Instr.{Instr}
 use Rattle.instructions.specs.declared.forms.Second.{Second}
-use Rattle.instructions.specs.Table.{operations}
+use Rattle.opcodes.specs.Table.{operations}
 use Rattle.instructions.specs.Forms.{limitsOf, valid}
 use Rattle.words.proofs.Validity.{SecondSmall, fields}
 use Rattle.naming.specs.Names.{nameOf}

@@ -15,8 +15,8 @@ use Rattle.instructions.specs.declared.instr.Op.{Op}
 use Rattle.instructions.specs.declared.forms.Limits.{Limits}
 use Rattle.words.specs.declared.fetching.ControlIn.{ControlIn}
 use Rattle.words.specs.declared.reading.ReadAnswer.{ReadAnswer}
-use Rattle.instructions.specs.declared.table.FoundOp.{FoundOp}
-use Rattle.instructions.specs.Table.{opOf}
+use Rattle.opcodes.specs.declared.table.FoundOp.{FoundOp}
+use Rattle.opcodes.specs.Table.{opOf}
 use Rattle.instructions.specs.Forms.{limitsOf, sizeOf, fits}
 use Rattle.words.specs.Layout.{opcodeIn, modifierIn, instrIn, spareZero}
 use Rattle.words.specs.Reading.{readFields, readOp, readFrom, readAt}

@@ -14,11 +14,11 @@ use Rattle.instructions.specs.declared.instr.Guard.{Guard}
 use Rattle.instructions.specs.declared.instr.Instr.{Instr}
 use Rattle.instructions.specs.declared.forms.Second.{Second}
 use Rattle.words.specs.declared.reading.ReadAnswer.{ReadAnswer}
-use Rattle.instructions.specs.Table.{opcodeOf, modifierOf}
+use Rattle.opcodes.specs.Table.{opcodeOf, modifierOf}
 use Rattle.instructions.specs.Forms.{limitsOf, sizeOf, secondFits, valid}
 use Rattle.words.specs.Layout.{guardIn, firstWord, instr, instrIn, restOf, secondSpare, spareZero, wordsOf, opcodeIn, rdIn, rs1In, modifierIn, bit3In}
 use Rattle.words.specs.Reading.{readFrom}
-use Rattle.instructions.proofs.Rows.{table}
+use Rattle.opcodes.proofs.Rows.{table}
 use Rattle.words.proofs.Sizes.{words-length}
 use Rattle.words.proofs.Digits.{joined, top-back, rd-back, rs1-back, modifier-back, spare-back, negate-back, pred-back, rs2-back, rs3-back, rs4-back, unused-back, scope-back}
 use Rattle.words.proofs.Validity.{SecondSmall, Fields, fields, registers-fit}

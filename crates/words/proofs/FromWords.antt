@@ -11,16 +11,16 @@ use borrow.Author.Tests.{eqb-true, eqb-false, ltb-false}
 use Rattle.ground.proofs.Bools.{and-left, and-right}
 use Rattle.instructions.specs.declared.instr.Op.{Op}
 use Rattle.instructions.specs.declared.instr.Instr.{Instr}
-use Rattle.instructions.specs.declared.table.FoundOp.{FoundOp}
+use Rattle.opcodes.specs.declared.table.FoundOp.{FoundOp}
 use Rattle.instructions.specs.declared.forms.Second.{Second}
 use Rattle.words.specs.declared.reading.ReadAnswer.{ReadAnswer}
-use Rattle.instructions.specs.Table.{opcodeOf, modifierOf, opOf}
+use Rattle.opcodes.specs.Table.{opcodeOf, modifierOf, opOf}
 use Rattle.instructions.specs.Forms.{limitsOf, sizeOf, fits, valid}
 use Rattle.words.specs.Layout.{firstWord, instrIn, restOf, secondSpare, spareZero, wordsOf, opcodeIn, modifierIn, bit3In, negateIn, rs4In, spareIn}
 use Rattle.refusals.specs.declared.Refusal.{Refusal}
 use Rattle.refusals.specs.Table.{Rule}
 use Rattle.words.specs.Reading.{refused, readFields, readOp, readFrom}
-use Rattle.instructions.proofs.Lookup.{op-opcode, op-modifier}
+use Rattle.opcodes.proofs.Lookup.{op-opcode, op-modifier}
 use Rattle.words.proofs.Sizes.{words-length}
 use Rattle.words.proofs.Digits.{whole-word, whole-pair}
 

@@ -12,10 +12,10 @@ use Rattle.instructions.specs.declared.instr.Op.{Op}
 use Rattle.instructions.specs.declared.instr.Instr.{Instr}
 use Rattle.instructions.specs.declared.forms.Second.{Second}
 use Rattle.instructions.specs.declared.forms.Limits.{Limits}
-use Rattle.instructions.specs.Table.{opcodeOf, modifierOf}
+use Rattle.opcodes.specs.Table.{opcodeOf, modifierOf}
 use Rattle.instructions.specs.Forms.{limitsOf, needMet, guardFits, secondFits, valid}
 use Rattle.words.specs.Layout.{negateBit, firstWord, restOf}
-use Rattle.instructions.proofs.Rows.{table}
+use Rattle.opcodes.proofs.Rows.{table}
 use Rattle.words.proofs.Digits.{negate-small}
 
 -- the limits of word 1 are within its fields

@@ -13,18 +13,18 @@ use Rattle.refusals.specs.declared.Refusal.{Refusal}
 use Rattle.refusals.specs.Table.{Rule}
 use Rattle.instructions.specs.declared.instr.Op.{Op}
 use Rattle.instructions.specs.declared.instr.Instr.{Instr}
-use Rattle.instructions.specs.declared.table.FoundOp.{FoundOp}
+use Rattle.opcodes.specs.declared.table.FoundOp.{FoundOp}
 use Rattle.instructions.specs.declared.forms.Second.{Second}
 use Rattle.words.specs.declared.reading.ReadAnswer.{ReadAnswer}
 use Rattle.words.specs.declared.writing.WriteAnswer.{WriteAnswer}
-use Rattle.instructions.specs.Table.{opOf}
+use Rattle.opcodes.specs.Table.{opOf}
 use Rattle.instructions.specs.Forms.{limitsOf, size, valid}
 use Rattle.words.specs.Layout.{instrIn, wordsOf, opcodeIn, modifierIn}
 use Rattle.words.specs.Rules.{Names, Allowed, Breaks, no-operation, no-word, few-words, wrong-field}
 use Rattle.words.specs.Reading.{refused, readAt}
 use Rattle.words.specs.Writing.{written, unwritten, writeOf}
-use Rattle.instructions.proofs.Lookup.{op-opcode, op-modifier}
-use Rattle.instructions.proofs.Rows.{table}
+use Rattle.opcodes.proofs.Lookup.{op-opcode, op-modifier}
+use Rattle.opcodes.proofs.Rows.{table}
 use Rattle.words.proofs.Sizes.{size-positive}
 use Rattle.words.proofs.ReadSteps.{past, missing, short, whole}
 use Rattle.words.proofs.FieldTests.{right, allowed, kept}

@@ -8,8 +8,8 @@ use Rattle.instructions.specs.declared.instr.Instr.{Instr}
 use Rattle.instructions.specs.declared.instr.Op.{Op}
 use Rattle.words.specs.declared.fetching.ControlIn.{ControlIn}
 use Rattle.words.specs.declared.fetching.Fetched.{Fetched}
-use Rattle.instructions.specs.declared.table.FoundOp.{FoundOp}
-use Rattle.instructions.specs.Table.{opOf}
+use Rattle.opcodes.specs.declared.table.FoundOp.{FoundOp}
+use Rattle.opcodes.specs.Table.{opOf}
 use Rattle.instructions.specs.Forms.{limitsOf, size}
 use Rattle.words.specs.Layout.{opcodeIn, modifierIn, instr, instrIn}
 

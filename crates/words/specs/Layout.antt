@@ -7,7 +7,7 @@ use Rattle.instructions.specs.declared.instr.Op.{Op}
 use Rattle.instructions.specs.declared.instr.Guard.{Guard}
 use Rattle.instructions.specs.declared.instr.Instr.{Instr}
 use Rattle.instructions.specs.declared.forms.Second.{Second}
-use Rattle.instructions.specs.Table.{opcodeOf, modifierOf}
+use Rattle.opcodes.specs.Table.{opcodeOf, modifierOf}
 use Rattle.instructions.specs.Forms.{limitsOf}
 
 -- bits hi to lo of a word

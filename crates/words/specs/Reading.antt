@@ -6,9 +6,9 @@ use lib.Dec.{ltb}
 use lib.ListN.{length, getD, drop}
 use Rattle.instructions.specs.declared.instr.Op.{Op}
 use Rattle.instructions.specs.declared.forms.Limits.{Limits}
-use Rattle.instructions.specs.declared.table.FoundOp.{FoundOp}
+use Rattle.opcodes.specs.declared.table.FoundOp.{FoundOp}
 use Rattle.words.specs.declared.reading.ReadAnswer.{ReadAnswer}
-use Rattle.instructions.specs.Table.{opOf}
+use Rattle.opcodes.specs.Table.{opOf}
 use Rattle.instructions.specs.Forms.{limitsOf, sizeOf, size, fits}
 use Rattle.words.specs.Layout.{instrIn, spareZero, opcodeIn, modifierIn}
 use Rattle.refusals.specs.Table.{Rule, broken}

@@ -7,14 +7,14 @@ use instructions::instr::ControlOp;
 use instructions::instr::Guard;
 use instructions::instr::Instr;
 use instructions::instr::Op;
-use instructions::table::FoundOp;
-use instructions::table::memory_or_control_op;
-use instructions::table::register_op;
+use opcodes::table::FoundOp;
+use opcodes::table::memory_or_control_op;
+use opcodes::table::register_op;
 ghost use mathlib.Core.Path.{_≡_};
 ghost use Rattle.words.specs.Fetching.{nop, fetchAt, controlIn};
 ghost use Rattle.instructions.specs.Forms.{sizeOf};
 ghost use Rattle.words.specs.Layout.{opcodeIn, modifierIn};
-ghost use Rattle.instructions.specs.Table.{opOf};
+ghost use Rattle.opcodes.specs.Table.{opOf};
 
 // An instruction, and how many words it has.
 pub struct Fetched {

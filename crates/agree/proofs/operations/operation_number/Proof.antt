@@ -1,7 +1,7 @@
 -- No operation's number wraps: an opcode is below 255 and a modifier below 16, row by row of the table.
 use Prim.Native.Nat.{_<_}
 use native.Mathlib.Omega.{arith}
-use Rattle.instructions.proofs.Rows.{table}
+use Rattle.opcodes.proofs.Rows.{table}
 use borrow.Author.Needs.{needs}
 use Rattle.agree.proofs.operations.operation_number.Statement.{statement}
 use Rattle.agree.proofs.operations.operation_number.Tie as tie

@@ -1,7 +1,7 @@
 -- The part that is searched is the one that has the word's opcode, if any has (Parts).
 use mathlib.Core.Path.{sym, _∙_}
 use Rattle.words.specs.Layout.{modifierIn}
-use Rattle.instructions.proofs.Parts.{of-registers, of-memory-or-control}
+use Rattle.opcodes.proofs.Parts.{of-registers, of-memory-or-control}
 use borrow.Author.Needs.{needs}
 use Rattle.words.proofs.fetching.op_in.Statement.{statement}
 use Rattle.words.proofs.fetching.op_in.Tie as tie

@@ -4,9 +4,9 @@ use mathlib.Core.List.{List}
 use Prim.Native.Nat.{ℕ, _<_}
 use lib.ListN.{length, getD}
 use Rattle.instructions.specs.declared.instr.Op.{Op}
-use Rattle.instructions.specs.declared.table.FoundOp.{FoundOp}
+use Rattle.opcodes.specs.declared.table.FoundOp.{FoundOp}
 use Rattle.instructions.specs.declared.forms.Limits.{Limits}
-use Rattle.instructions.specs.Table.{opOf}
+use Rattle.opcodes.specs.Table.{opOf}
 use Rattle.instructions.specs.Forms.{limitsOf, sizeOf}
 use Rattle.words.specs.Layout.{opcodeIn, modifierIn}
 use Rattle.words.proofs.ReadSteps.{past, missing, short, whole}

@@ -1,7 +1,7 @@
 -- Word 0 does not wrap: no opcode is 255, so the fields below it have room, whatever they are.
 use Prim.Native.Nat.{_<_, _≤_}
 use native.Mathlib.Omega.{arith}
-use Rattle.instructions.proofs.Rows.{table}
+use Rattle.opcodes.proofs.Rows.{table}
 use Rattle.words.proofs.Digits.{negate-small}
 use borrow.Author.Needs.{needs}
 use Rattle.words.proofs.writing.first_word.Statement.{statement}

@@ -3,14 +3,14 @@ use mathlib.Core.Bool.{Bool, cond, _&&_}
 use mathlib.Core.List.{List, [], _∷_, _++_}
 use Prim.Native.Nat.{ℕ}
 use lib.Dec.{eqb}
 use Rattle.instructions.specs.declared.instr.TwoOp.{TwoOp}
 use Rattle.instructions.specs.declared.instr.CompareOp.{CompareOp}
 use Rattle.instructions.specs.declared.instr.OneOp.{OneOp}
 use Rattle.instructions.specs.declared.instr.AtomicOp.{AtomicOp}
 use Rattle.instructions.specs.declared.instr.ControlOp.{ControlOp}
 use Rattle.instructions.specs.declared.instr.Space.{Space}
 use Rattle.instructions.specs.declared.instr.Op.{Op}
-use Rattle.instructions.specs.declared.table.FoundOp.{FoundOp}
+use Rattle.opcodes.specs.declared.table.FoundOp.{FoundOp}
 
 -- two words, RS2
 abbrev pub twoCode : TwoOp → ℕ

@@ -5,9 +5,9 @@ use mathlib.Core.Path.{_≡_}
 use mathlib.Core.List.{List, [], _∷_}
 use Prim.Native.Nat.{ℕ}
 use lib.Dec.{eqb}
 use Rattle.instructions.specs.declared.instr.Op.{Op}
-use Rattle.instructions.specs.declared.table.FoundOp.{FoundOp}
-use Rattle.instructions.specs.Table.{find}
+use Rattle.opcodes.specs.declared.table.FoundOp.{FoundOp}
+use Rattle.opcodes.specs.Table.{find}
 
 -- the operation of a list whose number, by f, is n
 abbrev pub numbered : (Op → ℕ) → List Op → ℕ → FoundOp

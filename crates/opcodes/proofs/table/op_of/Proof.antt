@@ -1,9 +1,9 @@
 -- The part that is searched is the one that has the opcode, if any has (Parts).
 use mathlib.Core.Path.{sym, _∙_}
-use Rattle.instructions.proofs.Parts.{of-registers, of-memory-or-control}
+use Rattle.opcodes.proofs.Parts.{of-registers, of-memory-or-control}
 use borrow.Author.Needs.{needs}
-use Rattle.instructions.proofs.table.op_of.Statement.{statement}
-use Rattle.instructions.proofs.table.op_of.Tie as tie
+use Rattle.opcodes.proofs.table.op_of.Statement.{statement}
+use Rattle.opcodes.proofs.table.op_of.Tie as tie
 
 returns : tie.Need-returns
 returns c = c .memory-or-control-op .ensures ∙ sym (of-memory-or-control _ (c .before .before .args .modifier) (c .before .if1 .taken))

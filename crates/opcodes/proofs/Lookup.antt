@@ -8,10 +8,10 @@ use native.Mathlib.Omega.{arith}
 use lib.Dec.{eqb}
 use borrow.Author.Tests.{ne-eqb, eqb-true}
 use Rattle.ground.proofs.Bools.{and-left, and-right}
 use Rattle.instructions.specs.declared.instr.Op.{Op}
-use Rattle.instructions.specs.declared.table.FoundOp.{FoundOp}
-use Rattle.instructions.specs.Table.{opcodeOf, modifierOf, operations, find, has, opOf}
-use Rattle.instructions.specs.Named.{numbered, NotIn, Named}
+use Rattle.opcodes.specs.declared.table.FoundOp.{FoundOp}
+use Rattle.opcodes.specs.Table.{opcodeOf, modifierOf, operations, find, has, opOf}
+use Rattle.opcodes.specs.Named.{numbered, NotIn, Named}
 
 -- what is found passes the test
 find-passes : (test : Op → Bool) (os : List Op) (o : Op) → find test os ≡ FoundOp.Carried o → test o ≡ true

@@ -1,11 +1,11 @@
 -- An opcode is looked for in the part of its first digit, and the search of a part is the definition's (Parts, Lookup).
 use mathlib.Core.Path.{sym, _∙_}
-use Rattle.instructions.specs.Table.{opcodeOf, sums, bitwise, moves}
-use Rattle.instructions.proofs.Lookup.{named-find}
-use Rattle.instructions.proofs.Parts.{none-modified, among-sums, among-bitwise, among-moves}
+use Rattle.opcodes.specs.Table.{opcodeOf, sums, bitwise, moves}
+use Rattle.opcodes.proofs.Lookup.{named-find}
+use Rattle.opcodes.proofs.Parts.{none-modified, among-sums, among-bitwise, among-moves}
 use borrow.Author.Needs.{needs}
-use Rattle.instructions.proofs.table.register_op.Statement.{statement}
-use Rattle.instructions.proofs.table.register_op.Tie as tie
+use Rattle.opcodes.proofs.table.register_op.Statement.{statement}
+use Rattle.opcodes.proofs.table.register_op.Tie as tie
 
 returns : tie.Need-returns
 returns c = sym (none-modified (c .before .args .opcode) _ (c .if1 .taken))

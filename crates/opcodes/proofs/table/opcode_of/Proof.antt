@@ -1,7 +1,7 @@
 -- The opcode of an operation, arm by arm.
 use borrow.Author.Needs.{needs}
-use Rattle.instructions.proofs.table.opcode_of.Statement.{statement}
-use Rattle.instructions.proofs.table.opcode_of.Tie as tie
+use Rattle.opcodes.proofs.table.opcode_of.Statement.{statement}
+use Rattle.opcodes.proofs.table.opcode_of.Tie as tie
 
 returns : tie.Need-returns
 returns c = rw (c .before .before .op .given .1) (c .two-code .ensures)

@@ -8,10 +8,10 @@ use native.Mathlib.Omega.{arith}
 use lib.Dec.{eqb}
 use borrow.Author.Tests.{eq-eqb, ne-eqb, eqb-true}
 use Rattle.ground.proofs.Bools.{and-left, and-right}
 use Rattle.instructions.specs.declared.instr.Op.{Op}
-use Rattle.instructions.specs.declared.table.FoundOp.{FoundOp}
-use Rattle.instructions.specs.Table.{opcodeOf, sums, bitwise, moves, accesses, inRegisters, memoryAndControl, find, has, opOf}
-use Rattle.instructions.specs.Named.{numbered}
+use Rattle.opcodes.specs.declared.table.FoundOp.{FoundOp}
+use Rattle.opcodes.specs.Table.{opcodeOf, sums, bitwise, moves, accesses, inRegisters, memoryAndControl, find, has, opOf}
+use Rattle.opcodes.specs.Named.{numbered}
 
 -- the opcodes of a list begin with the digit d
 abbrev begin : ℕ → List Op → Bool

@@ -1,14 +1,14 @@
 // The table of operations: from an opcode and a modifier to the operation, and back.
 ghost use mathlib.Core.Path.{_≡_};
-ghost use Rattle.instructions.specs.Table.{twoCode, compareCode, oneCode, loadCode, storeCode, opcodeOf, atomicModifier, controlModifier, modifierOf, sums, bitwise, moves, accesses, atomics, controls, inRegisters, memoryAndControl, find, has, opOf};
-ghost use Rattle.instructions.specs.Named.{Named};
-use crate::instr::AtomicOp;
-use crate::instr::CompareOp;
-use crate::instr::ControlOp;
-use crate::instr::OneOp;
-use crate::instr::Op;
-use crate::instr::Space;
-use crate::instr::TwoOp;
+ghost use Rattle.opcodes.specs.Table.{twoCode, compareCode, oneCode, loadCode, storeCode, opcodeOf, atomicModifier, controlModifier, modifierOf, sums, bitwise, moves, accesses, atomics, controls, inRegisters, memoryAndControl, find, has, opOf};
+ghost use Rattle.opcodes.specs.Named.{Named};
+use instructions::instr::AtomicOp;
+use instructions::instr::CompareOp;
+use instructions::instr::ControlOp;
+use instructions::instr::OneOp;
+use instructions::instr::Op;
+use instructions::instr::Space;
+use instructions::instr::TwoOp;
 
 // What an opcode and a modifier name.
 pub enum FoundOp {

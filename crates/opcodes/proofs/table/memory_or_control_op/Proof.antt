@@ -1,11 +1,11 @@
 -- Control and ATOMIC are searched by modifier, the others by opcode; each search is the definition's (Parts, Lookup).
 use mathlib.Core.Path.{sym, _∙_}
-use Rattle.instructions.specs.Table.{opcodeOf, modifierOf, accesses, atomics, controls}
-use Rattle.instructions.proofs.Lookup.{named-find}
-use Rattle.instructions.proofs.Parts.{among-accesses, not-listed}
+use Rattle.opcodes.specs.Table.{opcodeOf, modifierOf, accesses, atomics, controls}
+use Rattle.opcodes.proofs.Lookup.{named-find}
+use Rattle.opcodes.proofs.Parts.{among-accesses, not-listed}
 use borrow.Author.Needs.{needs}
-use Rattle.instructions.proofs.table.memory_or_control_op.Statement.{statement}
-use Rattle.instructions.proofs.table.memory_or_control_op.Tie as tie
+use Rattle.opcodes.proofs.table.memory_or_control_op.Statement.{statement}
+use Rattle.opcodes.proofs.table.memory_or_control_op.Tie as tie
 
 returns : tie.Need-returns
 returns c = rw (c .before .if1 .taken) (named-find modifierOf controls _ _ (c .control-op .ensures))

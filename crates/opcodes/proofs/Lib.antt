@@ -1,0 +1,4 @@
+pub mod Lookup
+pub mod Parts
+pub mod Rows
+pub mod OneAnswer
