@@ -11,7 +11,7 @@ use Rattle.blocks.specs.Item.{itemAt}
 use Rattle.blocks.specs.Open.{inLoop}
 use Rattle.blocks.specs.Scan as blocks
 use Rattle.blocks.specs.OpenAt as places
-use Rattle.wave.specs.Control as control
+use Rattle.control.specs.Control as control
 use Rattle.faulting.specs.Causes.{faultLanes}
 use Rattle.lanes.specs.declared.said.Block.{Block}
 use Rattle.compute.specs.Registers.{slot, byLane, gatherOf, writeLanes}

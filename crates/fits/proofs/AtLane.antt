@@ -11,7 +11,7 @@ use Rattle.lanes.specs.Sets.{bit, first}
 use Rattle.lanes.proofs.Bits.{bit-le, bit-zero, first-below, first-past, set-ext}
 use Rattle.lanes.specs.declared.said.Block.{Block}
 use Rattle.wave.specs.Wave.{Wave, Preds}
-use Rattle.wave.specs.Rules.{isLoop}
+use Rattle.wave.specs.Layout.{isLoop}
 use Rattle.fits.specs.Fits.{count, asides, marks, predicates, Unions, Quiet, SetsFit}
 
 -- at lane i, n (0 or 1) of the sets inside hold it; bs: the open blocks from there outward; l: the launched lanes, h: the halted ones

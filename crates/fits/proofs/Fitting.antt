@@ -18,7 +18,7 @@ use Rattle.blocks.specs.OpenAt.{Found, nowhere, there, openAt}
 use Rattle.lanes.specs.declared.said.Block.{Block}
 use Rattle.wave.specs.declared.state.Hot.{Hot}
 use Rattle.wave.specs.Wave.{Wave, Preds, waveOf, predsOf}
-use Rattle.wave.specs.Rules.{isLoop}
+use Rattle.wave.specs.Layout.{isLoop}
 use Rattle.fits.specs.Fits.{SetsFit, Same, OpenThere, Fits}
 use Rattle.fits.specs.FitsTest.{apart, joins, within, withAside, blockTest, pathTest, setsTest, agree, placeTest, fitsTest}
 use Rattle.fits.proofs.AtLane.{FitsAt, at, fits-lanes, lanes-fit}

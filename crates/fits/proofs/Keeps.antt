@@ -16,24 +16,12 @@ use Rattle.lanes.proofs.Bits.{bit-le, bit-zero, bit-and, bit-or, bit-without, s
 use Rattle.lanes.specs.declared.said.Block.{Block}
 use Rattle.blocks.specs.Open.{nesting}
 use Rattle.wave.specs.Wave.{Wave, Preds, launch, clear}
-use Rattle.wave.specs.Rules.{
-  isLoop,
-  leave,
-  broken,
-  continued,
-  toLoop,
-  onwardBy,
-  onward,
-  elseOn,
-  endifOn,
-  endifRule,
-  endloopOn,
-  endloopRule,
-  barred,
-}
-use Rattle.wave.specs.Control.{controlRule}
+use Rattle.wave.specs.Layout.{isLoop}
+use Rattle.wave.specs.Going.{onwardBy}
+use Rattle.control.specs.Rules.{leave, broken, continued, toLoop, onward, elseOn, endifOn, endifRule, endloopOn, endloopRule, barred}
+use Rattle.control.specs.Control.{controlRule}
 use Rattle.fits.specs.Fits.{SetsFit}
-use Rattle.wave.specs.Ready.{TopLoop, TopHalf, SomeLoop, Ready, HandsBack}
+use Rattle.control.specs.Ready.{TopLoop, TopHalf, SomeLoop, Ready, HandsBack}
 use Rattle.fits.proofs.AtLane.{FitsAt, PredsFit, at, launched, fits-lanes, lanes-fit}
 
 -- the wave fits at lane i, with l the launched lanes

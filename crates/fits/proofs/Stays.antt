@@ -28,10 +28,12 @@ use Rattle.blocks.proofs.Openers.{at-most, EachOpened, each-opened}
 use Rattle.blocks.proofs.Theorems.{Allowed, allowed}
 use Rattle.lanes.specs.declared.said.Block.{Block}
 use Rattle.wave.specs.Wave.{Wave, Preds, launch, clear, stateOf}
-use Rattle.wave.specs.Rules.{onBy, next, leave, broken, continued, toLoop, isLoop, onwardBy, elseOn, endifOn, endloopOn, barred, onward}
-use Rattle.wave.specs.Control.{controlRule}
+use Rattle.wave.specs.Layout.{isLoop}
+use Rattle.wave.specs.Going.{onBy, next, onwardBy}
+use Rattle.control.specs.Rules.{leave, broken, continued, toLoop, elseOn, endifOn, endloopOn, barred, onward}
+use Rattle.control.specs.Control.{controlRule}
 use Rattle.fits.specs.Fits.{Same, OpenThere, WaveFits, Fits}
-use Rattle.wave.specs.Ready.{TopLoop, TopHalf, SomeLoop, Ready}
+use Rattle.control.specs.Ready.{TopLoop, TopHalf, SomeLoop, Ready}
 use Rattle.fits.proofs.AtLane.{PredsFit}
 use Rattle.fits.proofs.Keeps.{keeps, keeps-onward, fits-launch}
 use Rattle.wave.proofs.View.{wave-in}

@@ -11,7 +11,7 @@ use Rattle.blocks.specs.OpenAt.{Found, nowhere, there, openAt}
 use Rattle.lanes.specs.declared.said.Block.{Block}
 use Rattle.wave.specs.declared.state.Hot.{Hot}
 use Rattle.wave.specs.Wave.{Wave, Preds, waveOf, predsOf}
-use Rattle.wave.specs.Rules.{isLoop}
+use Rattle.wave.specs.Layout.{isLoop}
 
 -- how many of the sets have lane i
 abbrev pub count : ℕ → List ℕ → ℕ

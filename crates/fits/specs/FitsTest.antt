@@ -16,7 +16,7 @@ use Rattle.lanes.specs.declared.said.Block.{Block}
 use Rattle.wave.specs.declared.state.Hot.{Hot}
 use Rattle.wave.specs.Layout.{blockNumbers}
 use Rattle.wave.specs.Wave.{Wave, Preds, waveOf, predsOf}
-use Rattle.wave.specs.Rules.{isLoop}
+use Rattle.wave.specs.Layout.{isLoop}
 
 -- no lane is in both sets
 abbrev pub apart : ℕ → ℕ → Bool

@@ -14,7 +14,7 @@ use Rattle.numbers.proofs.Numerals.{small-cons, small-take, small-replicate}
 use Rattle.body.specs.Layout.{lastPlace, beforePart, loopPart, blockFits}
 use Rattle.lanes.specs.declared.said.Block.{Block}
 use Rattle.wave.specs.Layout.{blockNumbers, pathNumbers, six, laid, arrayOf}
-use Rattle.wave.specs.Rules.{isLoop}
+use Rattle.wave.specs.Layout.{isLoop}
 use Rattle.fits.proofs.OpenBlocks.{Sized, AllSized}
 use Rattle.replay.specs.Replay.{mostWords}
 

@@ -20,7 +20,7 @@ use Rattle.blocks.specs.Code.{codeOf}
 use Rattle.blocks.specs.Scan.{checkOf}
 use Rattle.blocks.specs.Open.{inLoop}
 use Rattle.blocks.specs.Scan as blocks
-use Rattle.wave.specs.Control as control
+use Rattle.control.specs.Control as control
 use Rattle.faulting.specs.Causes.{faultLanes}
 use Rattle.compute.specs.Registers.{slot, byLane, gatherOf, writeLanes}
 use Rattle.compute.specs.Memory.{changesOf}

@@ -25,7 +25,7 @@ use Rattle.blocks.specs.OpenAt.{Found, nowhere, there, openAt}
 use Rattle.blocks.proofs.Instructions.{Instruction, instruction-there}
 use Rattle.lanes.specs.declared.said.Block.{Block}
 use Rattle.wave.specs.Wave.{Wave, Preds}
-use Rattle.wave.specs.Control.{controlRule}
+use Rattle.control.specs.Control.{controlRule}
 use Rattle.fits.specs.Fits.{OpenThere, WaveFits}
 use Rattle.fits.proofs.AtLane.{PredsFit, fits-lanes, lanes-fit}
 use Rattle.wave.proofs.Guards.{executing-within}

@@ -16,8 +16,8 @@ use Rattle.words.specs.Rules.{Stands}
 use Rattle.words.specs.Fetching.{counted, fetchAt}
 use Rattle.blocks.specs.Open.{nesting}
 use Rattle.instructions.specs.Registers.{Past}
-use Rattle.wave.specs.Rules.{onBy}
-use Rattle.wave.specs.Ready.{Ready}
+use Rattle.wave.specs.Going.{onBy}
+use Rattle.control.specs.Ready.{Ready}
 use Rattle.faulting.specs.Kinds.{clear}
 use Rattle.compute.specs.Operands.{Lent, operandsOf}
 use Rattle.compute.specs.Carrying.{inShape, havingRead}

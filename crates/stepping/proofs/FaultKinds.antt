@@ -13,8 +13,8 @@ use Rattle.words.specs.declared.fetching.ControlIn.{ControlIn}
 use Rattle.words.specs.declared.fetching.Fetched.{Fetched}
 use Rattle.words.specs.Fetching.{controlIn}
 use Rattle.wave.specs.Wave.{Wave}
-use Rattle.wave.specs.Rules.{barred}
-use Rattle.wave.specs.Control.{faultLanes}
+use Rattle.control.specs.Rules.{barred}
+use Rattle.control.specs.Control.{faultLanes}
 use Rattle.wave.proofs.Guards.{executing-within}
 use Rattle.faulting.specs.declared.faults.Faults.{Faults}
 use Rattle.faulting.specs.Kinds.{lanesOfKind}

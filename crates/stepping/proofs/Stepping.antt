@@ -14,15 +14,16 @@ use Rattle.words.specs.Fetching.{controlIn}
 use Rattle.instructions.specs.declared.instr.ControlOp.the-variants.{If, Else, Endif, Loop, Break, Continue, Endloop, Halt, Barrier, Nop}
 use Rattle.words.proofs.Fetches.{control-is}
 use Rattle.wave.specs.declared.state.Hot.{Hot}
-use Rattle.wave.specs.declared.rules.Stepped.{Stepped}
+use Rattle.control.specs.declared.rules.Stepped.{Stepped}
 use Rattle.blocks.specs.Open.{nesting}
 use Rattle.wave.specs.Wave.{Wave, Preds, waveOf, predsOf, hotOf}
-use Rattle.wave.specs.Rules.{executingOf, onwardBy, onward, barred}
+use Rattle.wave.specs.Going.{executingOf, onwardBy}
+use Rattle.control.specs.Rules.{onward, barred}
 use Rattle.wave.specs.Layout.{pathNumbers}
-use Rattle.wave.specs.Control.{controlRule, faultLanes, controlOf}
-use Rattle.wave.specs.Control as ruled
+use Rattle.control.specs.Control.{controlRule, faultLanes, controlOf}
+use Rattle.control.specs.Control as ruled
 use Rattle.wave.proofs.Laying.{length-opened}
-use Rattle.wave.proofs.View.{Seen, seen}
+use Rattle.control.proofs.Seeing.{Seen, seen}
 use Rattle.faulting.specs.declared.faults.Faults.{Faults}
 use Rattle.faulting.specs.Kinds.{clear, noFaults, ofBarrier}
 use Rattle.compute.specs.Operands.{Lent, lent}

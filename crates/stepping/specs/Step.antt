@@ -8,8 +8,8 @@ use Rattle.words.specs.declared.fetching.ControlIn.{ControlIn}
 use Rattle.words.specs.declared.fetching.Fetched.{Fetched}
 use Rattle.words.specs.Fetching.{controlIn}
 use Rattle.wave.specs.Wave.{Wave}
-use Rattle.wave.specs.Rules.{executingOf, onwardBy}
-use Rattle.wave.specs.Control.{controlRule, faultLanes}
+use Rattle.wave.specs.Going.{executingOf, onwardBy}
+use Rattle.control.specs.Control.{controlRule, faultLanes}
 use Rattle.faulting.specs.declared.faults.Faults.{Faults}
 use Rattle.faulting.specs.Kinds.{clear, ofBarrier}
 use Rattle.compute.specs.declared.Shape.{Shape}

@@ -2,14 +2,14 @@
 use crate::settings::Settings;
 use compute::Shape;
 use compute::carry_out;
+use control::control;
 use faulting::faults::Faults;
 use faulting::faults::is_clear;
 use faulting::faults::of_barrier;
 use lanes::Lanes;
 use lanes::first;
-use wave::control::control;
-use wave::rules::going::onward_by;
-use wave::rules::guarding::executing;
+use wave::going::onward_by;
+use wave::guarding::executing;
 use wave::state::Hot;
 use wave::state::PATH_NUMBERS;
 use wave::state::whole;

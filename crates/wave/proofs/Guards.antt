@@ -7,7 +7,7 @@ use Rattle.instructions.specs.declared.instr.Guard.{Guard}
 use Rattle.lanes.specs.Sets.{bit, without}
 use Rattle.lanes.proofs.Bits.{bit-and, bit-without}
 use Rattle.wave.specs.Wave.{Preds}
-use Rattle.wave.specs.Rules.{holding, executingOf}
+use Rattle.wave.specs.Going.{holding, executingOf}
 
 part-of : (negate : Bool) (a s i : ℕ) → bit (cond negate (without a s) (bitAnd a s)) i ≤ bit a i
 part-of true a s i = omega (arith, bit-without a s i)

@@ -1,6 +1,5 @@
 pub mod Laying
-pub mod Walks
-pub mod Ruling
+pub mod HotNumbers
 pub mod View
 pub mod Tidying
 pub mod Guards

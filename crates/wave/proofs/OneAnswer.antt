@@ -2,16 +2,13 @@
 use mathlib.Core.Path.{_≡_, ap, sym, _∙_}
 use mathlib.Core.List.{List, []}
 use Prim.Native.Nat.{ℕ, min}
-use Rattle.instructions.specs.declared.instr.ControlOp.{ControlOp}
 use Rattle.instructions.specs.declared.instr.Guard.{Guard}
 use Rattle.lanes.specs.Sets.{widest}
 use Rattle.blocks.specs.Open.{nesting}
 use Rattle.wave.specs.declared.state.Hot.{Hot}
 use Rattle.wave.specs.declared.state.State.{State}
-use Rattle.wave.specs.declared.rules.Stepped.{Stepped}
 use Rattle.wave.specs.Wave.{waveOf, predsOf, hotOf, Held, held, tidied, stateOf, launch, clear}
-use Rattle.wave.specs.Rules.{onwardBy, executingOf}
-use Rattle.wave.specs.Control.{Given, given, controlOf}
+use Rattle.wave.specs.Going.{onwardBy, executingOf}
 
 pub one-depth : (d r q : ℕ) → r ≡ min d nesting → q ≡ min d nesting → r ≡ q
 one-depth d r q e f = e ∙ sym f
@@ -34,10 +31,3 @@ pub one-tidy : (h : Hot) (xs : List ℕ) (r q : Hot) (ys zs : List ℕ)
     → held r ys ≡ tidied h xs
     → held q zs ≡ tidied h xs → (r ≡ q) × (ys ≡ zs)
 one-tidy h xs r q ys zs e f = (ap (λ (x : Held). x .hot) (e ∙ sym f), ap (λ (x : Held). x .blocks) (e ∙ sym f))
-
-abbrev steppedBy : Given → Stepped
-steppedBy g = record { barrier = g .barrier; hot = g .end .hot }
-
-pub one-control : (op : ControlOp) (all t : ℕ) (h : Hot) (xs ys zs : List ℕ) (r q : Stepped) → given r ys ≡ controlOf op all t h xs
-    → given q zs ≡ controlOf op all t h xs → (r ≡ q) × (ys ≡ zs)
-one-control op all t h xs ys zs r q e f = (ap steppedBy (e ∙ sym f), ap (λ (g : Given). g .end .blocks) (e ∙ sym f))

@@ -13,7 +13,7 @@ use Rattle.blocks.specs.Open.{nesting}
 use Rattle.wave.specs.Layout.{blockNumbers, pathNumbers, six, laid, opened}
 use Rattle.wave.specs.Wave.{held, tidied}
 use Rattle.wave.proofs.Laying.{length-laid, length-opened, laid-opened}
-use Rattle.wave.proofs.Ruling.{hotAt}
+use Rattle.wave.proofs.HotNumbers.{hotAt}
 
 -- the first k numbers as they are, and then zeros
 abbrev pub wiped : ℕ → List ℕ → List ℕ

@@ -1,6 +1,8 @@
 -- The open blocks in an array of numbers: six for each block in the key's order, outermost first. As a list they stand innermost first.
+use mathlib.Core.Bool.{Bool}
 use mathlib.Core.List.{List, [], _∷_}
 use Prim.Native.Nat.{ℕ, zero, suc, _+_, _-_, _*_}
+use lib.Dec.{eqb}
 use lib.ListN.{length, replicate, getD, set, drop}
 use Rattle.blocks.specs.Open.{nesting, before, after, looping, partNumber}
 use Rattle.lanes.specs.declared.said.Block.{Block}
@@ -21,6 +23,9 @@ afterElse = partNumber after
 
 abbrev pub loopPart : ℕ
 loopPart = partNumber looping
+
+abbrev pub isLoop : Block → Bool
+isLoop b = eqb (b .part) loopPart
 
 -- the six numbers of a block, and then the rest
 abbrev pub six : Block → List ℕ → List ℕ

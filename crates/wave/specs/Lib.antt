@@ -1,7 +1,4 @@
--- The wave, its control rules and the numbers that hold it.
+-- The wave and the numbers that hold it.
 pub mod Layout
 pub mod Wave
-pub mod Rules
-pub mod Search
-pub mod Control
-pub mod Ready
+pub mod Going

@@ -1,5 +1,5 @@
-// The wave: its state and the control rules.
-pub mod control;
+// The wave: its state, the executing lanes of an instruction, and going on to the next.
+pub mod going;
+pub mod guarding;
 pub mod launch;
-pub mod rules;
 pub mod state;

@@ -1,0 +1,4 @@
+pub mod Walks
+pub mod Ruling
+pub mod Seeing
+pub mod OneAnswer

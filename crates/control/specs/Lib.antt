@@ -1,0 +1,4 @@
+pub mod Rules
+pub mod Search
+pub mod Control
+pub mod Ready
