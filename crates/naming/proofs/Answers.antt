@@ -15,10 +15,10 @@ use Rattle.instructions.specs.Forms.{valid}
 use Rattle.refusals.specs.declared.Refusal.{Refusal}
 use Rattle.refusals.specs.Table.{Rule, broken}
 use Rattle.naming.specs.declared.TextAnswer.{TextAnswer}
-use Rattle.naming.specs.Text.{textOf}
-use Rattle.naming.specs.Lines.{instrOf}
+use Rattle.texts.specs.Text.{textOf}
+use Rattle.texts.specs.Lines.{instrOf}
 use Rattle.naming.specs.Writing.{Written, written, unwritten, textIn}
-use Rattle.naming.proofs.Theorems.{text-reads}
+use Rattle.texts.proofs.Theorems.{text-reads}
 
 -- every instruction and output has one of these
 data Outcome (i : Instr) (out : List ℕ) : Type 0 where

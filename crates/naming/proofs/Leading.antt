@@ -8,9 +8,9 @@ use native.Mathlib.Decide.{decLt}
 use native.Mathlib.Nat.{pow-zero, pow-suc, pow-le-pow-right, mod-lt, zero-add}
 use native.Mathlib.Omega.{arith}
 use borrow.Author.Tests.{lt-ltb, le-ltb, le-leb}
-use Rattle.naming.specs.Numerals.{glyph, digits, places, hexFrom, numeral}
+use Rattle.texts.specs.Numerals.{glyph, digits, places, hexFrom, numeral}
 use Rattle.naming.specs.Pieces.{packed, unpacked, joined}
-use Rattle.naming.proofs.Numbers.{length-digits, digits-all, places-few}
+use Rattle.texts.proofs.Numbers.{length-digits, digits-all, places-few}
 use Rattle.naming.proofs.Packing.{isByte, unpacked-back}
 
 -- ---- one digit

@@ -1,11 +1,3 @@
-pub mod Examples
-pub mod Numbers
-pub mod Cutting
-pub mod Tables
-pub mod Facts
-pub mod Reading
-pub mod Theorems
-pub mod Room
 pub mod Packing
 pub mod Leading
 pub mod Pieced

@@ -11,13 +11,13 @@ use Rattle.instructions.specs.declared.instr.Op.{Op}
 use Rattle.instructions.specs.declared.instr.Instr.{Instr}
 use Rattle.opcodes.specs.Table.{operations}
 use Rattle.naming.specs.declared.operands.Fields.{Fields}
-use Rattle.naming.specs.Bytes.{ascii}
-use Rattle.naming.specs.Names.{nameOf}
-use Rattle.naming.specs.Numerals.{numeral}
-use Rattle.naming.specs.Templates.{Item, get, template}
-use Rattle.naming.specs.Text.{specials, shown, operands, scopeText, onText}
+use Rattle.texts.specs.Bytes.{ascii}
+use Rattle.texts.specs.Names.{nameOf}
+use Rattle.texts.specs.Numerals.{numeral}
+use Rattle.texts.specs.Templates.{Item, get, template}
+use Rattle.texts.specs.Text.{specials, shown, operands, scopeText, onText}
 use Rattle.naming.specs.Pieces.{packed, unpacked, joined, nameParts, Shown, arranged}
-use Rattle.naming.proofs.Tables.{every}
+use Rattle.texts.proofs.Tables.{every}
 
 -- ---- names
 

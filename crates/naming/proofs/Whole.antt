@@ -16,10 +16,10 @@ use Rattle.numbers.proofs.Placing.{placed-front, puts-join, puts-same}
 use Rattle.naming.specs.declared.TextAnswer.{TextAnswer}
 use Rattle.naming.specs.declared.operands.Fields.{Fields}
 use Rattle.naming.specs.Pieces.{joined, nameParts, Shown, arranged}
-use Rattle.naming.specs.Templates.{template}
-use Rattle.naming.specs.Text.{tailText, textOf, textRoom}
+use Rattle.texts.specs.Templates.{template}
+use Rattle.texts.specs.Text.{tailText, textOf, textRoom}
 use Rattle.naming.specs.Writing.{written, unwritten, putIn, textIn}
-use Rattle.naming.proofs.Room.{text-room}
+use Rattle.texts.proofs.Room.{text-room}
 use Rattle.naming.proofs.Pieced.{name-whole, operands-then, arranged-whole}
 
 -- the name, the operands and what follows them, put one behind the other

@@ -10,10 +10,10 @@ use lib.ListN.{getD}
 use Rattle.instructions.specs.declared.instr.Op.{Op}
 use Rattle.instructions.specs.declared.instr.Instr.{Instr}
 use Rattle.naming.specs.declared.operands.Fields.{Fields}
-use Rattle.naming.specs.Bytes.{ascii}
-use Rattle.naming.specs.Numerals.{numeral}
-use Rattle.naming.specs.Names.{twoName, compareName, oneName, spaceName, atomicName, controlName}
-use Rattle.naming.specs.Text.{specials}
+use Rattle.texts.specs.Bytes.{ascii}
+use Rattle.texts.specs.Numerals.{numeral}
+use Rattle.texts.specs.Names.{twoName, compareName, oneName, spaceName, atomicName, controlName}
+use Rattle.texts.specs.Text.{specials}
 
 abbrev pub packed : List ℕ → ℕ
 packed [] = 0

@@ -8,7 +8,7 @@ use Rattle.refusals.specs.Table.{Rule, broken}
 use Rattle.instructions.specs.declared.instr.Instr.{Instr}
 use Rattle.instructions.specs.Forms.{valid}
 use Rattle.naming.specs.declared.TextAnswer.{TextAnswer}
-use Rattle.naming.specs.Text.{textOf}
+use Rattle.texts.specs.Text.{textOf}
 
 -- an answer, and what the output holds then
 pub record Written : Type 0 where

@@ -5,10 +5,10 @@ use instructions::instr::Guard;
 ghost use mathlib.Core.Path.{_≡_};
 ghost use mathlib.Core.Bool.{cond};
 ghost use Prim.Native.Nat.{_+_, _≤_};
-ghost use Rattle.naming.specs.Bytes.{ascii};
+ghost use Rattle.texts.specs.Bytes.{ascii};
 ghost use Rattle.numbers.specs.Placed.{Puts};
 ghost use Rattle.naming.specs.Pieces.{packed, joined, piecesRoom};
-ghost use Rattle.naming.specs.Text.{scopeText, onText, tailText};
+ghost use Rattle.texts.specs.Text.{scopeText, onText, tailText};
 
 // ` scope `, and ` p`.
 const SCOPE: u64 = 0x2065706F637320;

@@ -18,7 +18,7 @@ use refusals::Refusal;
 use refusals::SHORT;
 ghost use mathlib.Core.Path.{_≡_};
 ghost use Rattle.numbers.specs.Placed.{Puts};
-ghost use Rattle.naming.specs.Text.{textOf};
+ghost use Rattle.texts.specs.Text.{textOf};
 ghost use Rattle.naming.specs.Writing.{written, putIn, textIn};
 
 // How many bytes were written; or a refusal.

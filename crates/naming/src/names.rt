@@ -1,6 +1,6 @@
 // The names of operations, each in two pieces.
 ghost use mathlib.Core.Path.{_≡_};
-ghost use Rattle.naming.specs.Names.{twoName, compareName, oneName, spaceName, atomicName, controlName};
+ghost use Rattle.texts.specs.Names.{twoName, compareName, oneName, spaceName, atomicName, controlName};
 ghost use Rattle.naming.specs.Pieces.{packed, nameParts};
 use instructions::instr::AtomicOp;
 use instructions::instr::CompareOp;

@@ -1,7 +1,7 @@
 // Numbers as pieces of text: decimal up to seven digits, else `0x` and eight hexadecimal digits.
 ghost use mathlib.Core.Path.{_≡_};
 ghost use Prim.Native.Nat.{_≤_, _<_};
-ghost use Rattle.naming.specs.Numerals.{glyph, digits, places, hexFrom, numeral};
+ghost use Rattle.texts.specs.Numerals.{glyph, digits, places, hexFrom, numeral};
 ghost use Rattle.naming.specs.Pieces.{packed, unpacked, joined};
 
 // The least number that is hexadecimal.

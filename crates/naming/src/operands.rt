@@ -7,7 +7,7 @@ ghost use mathlib.Core.Path.{_≡_};
 ghost use mathlib.Core.List.{[]};
 ghost use lib.ListN.{getD};
 ghost use Rattle.naming.specs.Pieces.{packed, Shown, arranged};
-ghost use Rattle.naming.specs.Text.{specials};
+ghost use Rattle.texts.specs.Text.{specials};
 
 // An instruction's fields as pieces: its registers, RS1 as a special number, and the number, whose `0x` stands in front.
 pub struct Fields {

@@ -1,6 +1,6 @@
 -- As many digits as the number has.
 use native.Mathlib.Omega.{arith}
-use Rattle.naming.proofs.Numbers.{places-few}
+use Rattle.texts.proofs.Numbers.{places-few}
 use Rattle.naming.proofs.Leading.{decimal-piece}
 use borrow.Author.Needs.{needs}
 use Rattle.naming.proofs.numerals.decimal.Statement.{statement}

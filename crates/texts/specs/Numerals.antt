@@ -4,7 +4,7 @@ use mathlib.Core.Bool.{cond}
 use mathlib.Core.List.{List, [], _∷_, _++_}
 use lib.Dec.{eqb, ltb}
 use lib.ListN.{length, drop}
-use Rattle.naming.specs.Bytes.{ascii}
+use Rattle.texts.specs.Bytes.{ascii}
 
 -- the digit d below 16: `0` to `9`, then `A` to `F`
 abbrev pub glyph : ℕ → ℕ

@@ -16,10 +16,10 @@ use Rattle.instructions.specs.declared.instr.Space.{Space}
 use Rattle.instructions.specs.declared.instr.Op.{Op}
 use Rattle.instructions.specs.declared.instr.Instr.{Instr}
 use Rattle.words.specs.Layout.{instr}
-use Rattle.naming.specs.Bytes.{ascii, word, rest}
-use Rattle.naming.specs.Numerals.{digits, places, numeral, behind, numberIn}
-use Rattle.naming.specs.Text.{operands, textRoom}
-use Rattle.naming.specs.Lines.{guarded, tailIn, fieldsIn, ifText, instrOf, lineWords, lineAt}
+use Rattle.texts.specs.Bytes.{ascii, word, rest}
+use Rattle.texts.specs.Numerals.{digits, places, numeral, behind, numberIn}
+use Rattle.texts.specs.Text.{operands, textRoom}
+use Rattle.texts.specs.Lines.{guarded, tailIn, fieldsIn, ifText, instrOf, lineWords, lineAt}
 
 -- what the lines are read as
 abbrev readings : List String → List (Option Instr)

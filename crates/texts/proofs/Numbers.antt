@@ -12,8 +12,8 @@ use lib.ListN.{length, length-append}
 use borrow.Author.Tests.{lt-ltb, le-ltb, le-leb, ne-eqb}
 use Rattle.ground.specs.Tests.{allOf}
 use Rattle.ground.proofs.Tests.{all-append}
-use Rattle.naming.specs.Bytes.{ascii, inWord}
-use Rattle.naming.specs.Numerals.{glyph, digits, places, hexFrom, numeral, digitOf, behind, numberIn}
+use Rattle.texts.specs.Bytes.{ascii, inWord}
+use Rattle.texts.specs.Numerals.{glyph, digits, places, hexFrom, numeral, digitOf, behind, numberIn}
 
 -- ---- one digit
 

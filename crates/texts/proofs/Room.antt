@@ -14,13 +14,13 @@ use Rattle.instructions.specs.declared.forms.Second.{Second}
 use Rattle.opcodes.specs.Table.{operations}
 use Rattle.instructions.specs.Forms.{limitsOf, valid}
 use Rattle.words.proofs.Validity.{SecondSmall, fields}
-use Rattle.naming.specs.Names.{nameOf}
-use Rattle.naming.specs.Templates.{Kind, Item, get, template}
-use Rattle.naming.specs.Text.{shown, operands, scopeText, onText, tailText, textOf, textRoom}
-use Rattle.naming.proofs.Numbers.{numeral-few, numeral-long}
-use Rattle.naming.proofs.Tables.{every}
-use Rattle.naming.proofs.Facts.{SecondIs, within}
-use Rattle.naming.proofs.Reading.{KindFits, ItemsFit, items-fit}
+use Rattle.texts.specs.Names.{nameOf}
+use Rattle.texts.specs.Templates.{Kind, Item, get, template}
+use Rattle.texts.specs.Text.{shown, operands, scopeText, onText, tailText, textOf, textRoom}
+use Rattle.texts.proofs.Numbers.{numeral-few, numeral-long}
+use Rattle.texts.proofs.Tables.{every}
+use Rattle.texts.proofs.Facts.{SecondIs, within}
+use Rattle.texts.proofs.Reading.{KindFits, ItemsFit, items-fit}
 
 -- ---- operands
 
