@@ -1,10 +1,12 @@
--- What an instruction's lanes work on. The predicate that a number names: given what it has, nothing changes; given lanes of a set that
--- holds all predicates, that set still does.
+-- What an instruction's lanes work on. The predicate that a number names: it changes alone; given what it has, nothing changes; given
+-- lanes of a set that holds all predicates, that set still does.
 use mathlib.Core.Path.{_≡_, refl}
 use mathlib.Core.Bool.{Bool, true, false, cond}
 use Prim.Native.Nat.{ℕ, _≤_}
+use native.Mathlib.Decide.{ℕ-discrete}
 use native.Mathlib.Omega.{arith}
 use lib.Dec.{eqb}
+use borrow.Author.Tests.{ne-eqb}
 use Rattle.lanes.specs.Sets.{bit}
 use Rattle.lanes.proofs.Bits.{bit-zero}
 use Rattle.instructions.specs.declared.instr.Instr.{Instr}
@@ -32,6 +34,23 @@ chosen-same false false false ps = refl
 
 pub named-same : (k : ℕ) (ps : Preds) → withNamed k (named k ps) ps ≡ ps
 named-same k ps = chosen-same (eqb k 1) (eqb k 2) (eqb k 3) ps
+
+-- each predicate by its own number: none is two of them
+third-alone : (c : Bool) (q : ℕ) (ps : Preds) → preds (ps .p1) (ps .p2) (cond c q (ps .p3)) ≡ cond c (preds (ps .p1) (ps .p2) q) ps
+third-alone true q ps = refl
+third-alone false q ps = refl
+
+pub named-each :
+    (k q : ℕ) (ps : Preds) → preds (cond (eqb k 1) q (ps .p1)) (cond (eqb k 2) q (ps .p2)) (cond (eqb k 3) q (ps .p3)) ≡ withNamed k q ps
+named-each k q ps =
+    elim (ℕ-discrete k 1) [
+      | yes e ↦ rw e
+      | no e ↦ rw (ne-eqb k 1 e)
+          (elim (ℕ-discrete k 2) [
+            | yes e ↦ rw e
+            | no e ↦ rw (ne-eqb k 2 e) (third-alone (eqb k 3) q ps)
+          ])
+    ]
 
 module _ (l : ℕ) (ps : Preds) (f : PredsFit l ps) where
   chosen-fits : (a b c : Bool) (i : ℕ) → bit (chosen a b c ps) i ≤ bit l i
