@@ -1,8 +1,10 @@
--- What an instruction's lanes work on. The predicate that a number names, given what it has: nothing changes.
+-- What an instruction's lanes work on. The predicate that a number names changes alone; given what it has, nothing changes.
 use mathlib.Core.Path.{_≡_, refl}
 use mathlib.Core.Bool.{Bool, true, false, cond}
 use Prim.Native.Nat.{ℕ}
+use native.Mathlib.Decide.{ℕ-discrete}
 use lib.Dec.{eqb}
+use borrow.Author.Tests.{ne-eqb}
 use Rattle.instructions.specs.declared.instr.Instr.{Instr}
 use Rattle.wave.specs.Wave.{Preds}
 use Rattle.compute.specs.Operands.{Lent}
@@ -27,3 +29,20 @@ chosen-same false false false ps = refl
 
 pub named-same : (k : ℕ) (ps : Preds) → withNamed k (named k ps) ps ≡ ps
 named-same k ps = chosen-same (eqb k 1) (eqb k 2) (eqb k 3) ps
+
+-- each predicate by its own number: none is two of them
+third-alone : (c : Bool) (q : ℕ) (ps : Preds) → preds (ps .p1) (ps .p2) (cond c q (ps .p3)) ≡ cond c (preds (ps .p1) (ps .p2) q) ps
+third-alone true q ps = refl
+third-alone false q ps = refl
+
+pub named-each :
+    (k q : ℕ) (ps : Preds) → preds (cond (eqb k 1) q (ps .p1)) (cond (eqb k 2) q (ps .p2)) (cond (eqb k 3) q (ps .p3)) ≡ withNamed k q ps
+named-each k q ps =
+    elim (ℕ-discrete k 1) [
+      | yes e ↦ rw e
+      | no e ↦ rw (ne-eqb k 1 e)
+          (elim (ℕ-discrete k 2) [
+            | yes e ↦ rw e
+            | no e ↦ rw (ne-eqb k 2 e) (third-alone (eqb k 3) q ps)
+          ])
+    ]

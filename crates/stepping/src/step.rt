@@ -17,10 +17,11 @@ use words::fetching::ControlIn;
 use words::fetching::Fetched;
 use words::fetching::control_in;
 ghost use mathlib.Core.Path.{_≡_};
+ghost use mathlib.Core.Bool.{cond};
 ghost use mathlib.Core.List.{List};
 ghost use Prim.Native.Nat.{ℕ};
 ghost use Rattle.wave.specs.Wave.{predsOf};
-ghost use Rattle.stepping.specs.Machine.{machineOf, named, withNamed, hotWith};
+ghost use Rattle.stepping.specs.Machine.{machineOf, named, preds, withNamed, hotWith};
 ghost use Rattle.stepping.specs.Step.{registersIn, ordinaryOf, stepped, stepOf};
 
 // After a step: the faults, and the hot numbers.
@@ -29,16 +30,23 @@ pub struct StepAnswer {
     pub hot: Hot,
 }
 
-// The set of predicate `k`; none where there is no such predicate.
-fn named_set(k: u8, h: Hot) -> Lanes
-    ensures { λ r. ⌜ r ≡ named k (predsOf h) ⌝ }
+// The set of predicate `k` of three; none where there is no such predicate.
+fn named_set(k: u8, p1: Lanes, p2: Lanes, p3: Lanes) -> Lanes
+    ensures { λ r. ⌜ r ≡ named k (preds p1 p2 p3) ⌝ }
 {
     match k {
-        1 => h.p1,
-        2 => h.p2,
-        3 => h.p3,
+        1 => p1,
+        2 => p2,
+        3 => p3,
         _ => 0,
     }
+}
+
+// A predicate's set afterwards: `set` where the predicate is the one that is named.
+fn set_after(picked: bool, set: Lanes, old: Lanes) -> Lanes
+    ensures { λ r. ⌜ r ≡ cond picked set old ⌝ }
+{
+    if picked { set } else { old }
 }
 
 // The hot numbers, with `set` for predicate `k`.
@@ -46,12 +54,9 @@ fn with_named(k: u8, set: Lanes, h: Hot) -> Hot
     ensures { λ r. ⌜ r ≡ hotWith h (withNamed k set (predsOf h)) ⌝ }
 {
     let mut n = h;
-    match k {
-        1 => n.p1 = set,
-        2 => n.p2 = set,
-        3 => n.p3 = set,
-        _ => {}
-    }
+    n.p1 = set_after(k == 1, set, h.p1);
+    n.p2 = set_after(k == 2, set, h.p2);
+    n.p3 = set_after(k == 3, set, h.p3);
     n
 }
 
@@ -75,7 +80,8 @@ fn ordinary(
         width: settings.width,
         registers: settings.registers,
     };
-    let c = carry_out(instr, t, named_set(rd, h), shape, regs, device, local);
+    let predicate = named_set(rd, h.p1, h.p2, h.p3);
+    let c = carry_out(instr, t, predicate, shape, regs, device, local);
     let faults = c.faults;
     if is_clear(faults) {
         let n = onward_by(x.words, h);

@@ -7,15 +7,16 @@ ghost use mathlib.Core.Path.{_≡_};
 ghost use Rattle.wave.specs.Wave.{predsOf};
 ghost use Rattle.wave.specs.Going.{holding, executingOf};
 
-// The lanes at which a predicate holds. Predicate 0, or a number that is no predicate, holds at the active ones.
-fn holding_lanes(p: u8, h: Hot) -> Lanes
-    ensures { λ r. ⌜ r ≡ holding p (h .active) (predsOf h) ⌝ }
+// The lanes at which a predicate holds. Predicate 0, or a number that is no predicate, holds at the active ones. The predicates go in as
+// numbers of their own: chosen by their number from the hot numbers, they would keep those in memory at every step.
+fn holding_lanes(p: u8, active: Lanes, p1: Lanes, p2: Lanes, p3: Lanes) -> Lanes
+    ensures { λ r. ⌜ r ≡ holding p active (record { p1 = p1; p2 = p2; p3 = p3 }) ⌝ }
 {
     match p {
-        1 => h.p1,
-        2 => h.p2,
-        3 => h.p3,
-        _ => h.active,
+        1 => p1,
+        2 => p2,
+        3 => p3,
+        _ => active,
     }
 }
 
@@ -23,7 +24,7 @@ fn holding_lanes(p: u8, h: Hot) -> Lanes
 pub fn executing(g: Guard, h: Hot) -> Lanes
     ensures { λ r. ⌜ r ≡ executingOf g (h .active) (predsOf h) ⌝ }
 {
-    let on = holding_lanes(g.pred, h);
+    let on = holding_lanes(g.pred, h.active, h.p1, h.p2, h.p3);
     if g.negate {
         without(h.active, on)
     } else {
