@@ -17,10 +17,10 @@ use Rattle.ground.proofs.Tests.{false-of, true-or-false}
 use Rattle.formats.specs.Places.{each}
 use Rattle.body.specs.declared.BodyAnswer.the-variants.{Length, Refused}
 use Rattle.body.specs.Body.{setBytes, partsAt, sizeAt}
-use Rattle.body.specs.Layout.{lastPlace, mostDepth, kindLists, faultsFit, blockFits, ofLayout, starts, startsBody, bodyAnswer}
+use Rattle.body.specs.Layout.{lastPlace, mostDepth, mostKinds, kindLists, faultsFit, blockFits, ofLayout, starts, startsBody, bodyAnswer}
 use Rattle.body.specs.Places.{countAt, depthAt, blockAt}
 use Rattle.body.proofs.Places.{count-faults, depth-blocks, blocks-place, size-place}
-use Rattle.body.proofs.Starts.{Starts, starts-of, starts-long}
+use Rattle.body.proofs.Starts.{starts-of, starts-long, page-few}
 
 -- ---- what the code reads
 
@@ -41,7 +41,7 @@ answer-length s at k e h = simp (h, e)
 
 none-starts : startsBody [] ≡ false
 none-starts =
-    false-of (startsBody []) (λ e. let s = starts-of kindLists setBytes [] e in let l = starts-long [] s in let r = s .room in omega arith)
+    false-of (startsBody []) (λ e. let s = starts-of kindLists setBytes [] e in let l = starts-long kindLists setBytes mostKinds page-few [] s in let r = s .room in omega arith)
 
 pub answer-out : (s : List ℕ) (at : ℕ) → length s ≤ at → Refused (broken Rule.not-of-layout at) ≡ bodyAnswer s at
 answer-out s at h = answer-refused s at (rw (drop-of-length-le s {i = at} h) none-starts)
@@ -105,12 +105,12 @@ length-unrefused : (k : ℕ) (x : Refusal) → Length k ≡ Refused x → ⊥
 length-unrefused k x e = let z : _≡_ {A = ℕ} 0 1 = cc in omega arith
 
 module _ (s : List ℕ) (at : ℕ) where
-  pub length-says : (k : ℕ) → Length k ≡ bodyAnswer s at → (Starts kindLists setBytes (drop at s)) × (k ≡ sizeAt (drop at s))
+  pub length-says : (k : ℕ) → Length k ≡ bodyAnswer s at → (startsBody (drop at s) ≡ true) × (k ≡ sizeAt (drop at s))
   length-says k e =
       ⊎-elim
       (λ (h : startsBody (drop at s) ≡ true).
       let z : Length k ≡ Length (sizeAt (drop at s)) = e ∙ sym (answer-length s at _ refl h) in
-      (starts-of kindLists setBytes (drop at s) h, cc))
+      (h, cc))
       (λ (h : startsBody (drop at s) ≡ false). absurd (length-unrefused _ _ (e ∙ sym (answer-refused s at h))))
       (true-or-false (startsBody (drop at s)))
 

@@ -8,11 +8,11 @@ use lib.ListN.{length, replicate}
 use Rattle.ground.specs.Tests.{sameList, oneOf, allOf}
 use Rattle.formats.specs.Format.{bytesIn, valueIn, number, both, readTimes, sizeTimes, counted, seenAs}
 use Rattle.body.specs.Body.{Parts, faultFormat, blockFormat, bodyFormat, setBytes, bytesOfBody}
-use Rattle.body.specs.Layout.{shortest, longest, kindLists, apart, faultsFit, blockFits, ofLayout, starts, isWhole, isBody}
-use Rattle.body.proofs.Starts.{body-starts, starts-long}
+use Rattle.body.specs.Layout.{mostKinds, shortest, longest, kindLists, apart, faultsFit, blockFits, ofLayout, starts, isWhole, isBody}
+use Rattle.body.proofs.Starts.{body-starts, starts-long, page-few}
 
 pub body-long : (b : List ℕ) → isBody b ≡ true → (shortest ≤ length b) × (length b ≤ longest)
-body-long b e = let s = body-starts kindLists setBytes b e in let l = starts-long b (s .0) in let n = s .1 in (omega arith, omega arith)
+body-long b e = let s = body-starts kindLists setBytes b e in let l = starts-long kindLists setBytes mostKinds page-few b (s .0) in let n = s .1 in (omega arith, omega arith)
 
 -- one kind, no block
 abbrev unblocked : Parts

@@ -4,6 +4,7 @@ use Prim.Native.Nat.{ℕ, _≤_}
 use mathlib.Core.List.{List, _++_, map}
 use mathlib.Core.Bool.{Bool, true, _&&_}
 use native.Mathlib.Omega.{arith}
+use native.Mathlib.Nat.{mul-le-mul-left}
 use lib.Dec.{leb, eqb}
 use lib.ListN.{length, take, drop, length-append, length-map, take-append-drop}
 use lib.Seq.{length-take-le}
@@ -12,8 +13,9 @@ use Rattle.ground.specs.Tests.{oneOf, allOf}
 use Rattle.ground.proofs.Bools.{and-left, and-right, and-both}
 use Rattle.ground.proofs.Tests.{one-all}
 use Rattle.lanes.specs.declared.said.Fault.{Fault}
-use Rattle.body.specs.Body.{Parts, bodyFormat, setBytes, sizeAt}
-use Rattle.body.specs.Layout.{lastPlace, mostDepth, mostKinds, Kinds, kindLists, shortest, longest, apart, faultsFit, blockFits, ofLayout, starts, isWhole}
+use Rattle.body.specs.Body.{Parts, bodyFormat}
+use Rattle.body.specs.Layout.{lastPlace, mostDepth, mostKinds, Kinds, kindLists, faultBytes, blockBytes, lengthOf, apart, faultsFit, blockFits, ofLayout, starts, isWhole}
+use Rattle.body.specs.Places.{countAt, depthAt}
 use Rattle.body.proofs.Formats.{body-lawful}
 use Rattle.body.proofs.Places.{count-faults, depth-blocks, size-place}
 
@@ -122,17 +124,24 @@ kinds-count k n h fs e =
     let b = leb-true (length ks) n (and-right (leb 1 (length ks)) (leb (length ks) n) t) in
     (omega arith, omega arith)
 
--- with the page's table one or two
-pub page-count : (fs : List Fault) → faultsFit kindLists fs ≡ true → (1 ≤ length fs) × (length fs ≤ mostKinds)
-unfolding allOf kindLists
-page-count fs e = kinds-count kindLists mostKinds refl fs e
-
--- and so 32 to 808 bytes
-pub starts-long : (s : List ℕ) → Starts kindLists setBytes s → (shortest ≤ sizeAt s) × (sizeAt s ≤ longest)
-starts-long s h =
-    let c = page-count (bodyFormat setBytes .read s .faults) (h .fits .faults) in
-    let d = h .fits .depth in
-    let n = count-faults setBytes s in
-    let m = depth-blocks setBytes s in
-    let e = size-place setBytes s in
+-- and so it is at least as long as with one kind and no block, and at most as with n kinds in 32 blocks
+pub starts-long : (k : Kinds) (w n : ℕ) → allOf (few n) k ≡ true → (s : List ℕ) → Starts k w s
+    → (lengthOf w 1 0 ≤ bodyFormat w .size s) × (bodyFormat w .size s ≤ lengthOf w n mostDepth)
+starts-long k w n f s h =
+    let c = kinds-count k n f (bodyFormat w .read s .faults) (h .fits .faults) in
+    let e = size-place w s in
+    let faults : countAt s ≤ n = omega (arith, c .1, count-faults w s) in
+    let some : 1 ≤ countAt s = omega (arith, c .0, count-faults w s) in
+    let blocks : depthAt w s ≤ mostDepth = omega (arith, h .fits .depth, depth-blocks w s) in
+    let a = mul-le-mul-left (faultBytes w) some in
+    let b = mul-le-mul-left (faultBytes w) faults in
+    let d = mul-le-mul-left (blockBytes w) blocks in
     (omega arith, omega arith)
+
+-- with the page's table one or two
+pub page-few : allOf (few mostKinds) kindLists ≡ true
+unfolding allOf kindLists
+page-few = refl
+
+pub page-count : (fs : List Fault) → faultsFit kindLists fs ≡ true → (1 ≤ length fs) × (length fs ≤ mostKinds)
+page-count = kinds-count kindLists mostKinds page-few

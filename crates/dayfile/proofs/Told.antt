@@ -1,23 +1,23 @@
 -- What reading tells of a record of a list's file: where its body stands, and the first record with equal bytes.
 use mathlib.Core.Path.{_≡_, refl, sym, ap, _∙_, subst}
-use Prim.Native.Nat.{ℕ, zero, suc, _+_, _*_, _-_, _≤_, _<_}
-use mathlib.Core.List.{List, [], _∷_, _++_, flatten}
+use Prim.Native.Nat.{ℕ, zero, suc, _+_, _-_, _≤_, _<_}
+use mathlib.Core.List.{List, [], _∷_, flatten}
 use mathlib.Core.Bool.{Bool, true, false, cond}
 use mathlib.Core.Logic.{_↔_, dite}
 use native.Mathlib.Decide.{decLt}
 use native.Mathlib.Omega.{arith}
-use lib.ListN.{length, getD, take, drop, length-append}
+use lib.ListN.{length, getD}
 use Rattle.ground.specs.Tests.{sameList}
 use Rattle.ground.proofs.Bools.{never}
 use Rattle.ground.proofs.Tests.{same-refl, same-true}
-use Rattle.numbers.specs.Numbers.{numberAt}
 use Rattle.dayfile.specs.declared.answer.ReadAnswer.the-variants.{Record}
-use Rattle.dayfile.specs.Day.{tableEnd, table, fileOf, Listed}
-use Rattle.dayfile.specs.Read.{countOf, placeOf, lengthOf, firstSame, firstsOf, readAnswer}
+use Rattle.dayfile.specs.Day.{Layout, tableEnd, placeOf, lengthOf, fileOf, Listed}
+use Rattle.dayfile.specs.Read.{firstSame, firstsOf, readAnswer}
 use Rattle.dayfile.specs.Told.{body, Told}
+use Rattle.dayfile.proofs.Layouts.{Lawful}
 use Rattle.dayfile.proofs.Lists.{parted, bodies-file}
-use Rattle.dayfile.proofs.Walks.{peel}
-use Rattle.dayfile.proofs.Records.{record-here, count-is, read-so, first-at}
+use Rattle.dayfile.proofs.Walks.{row-of}
+use Rattle.dayfile.proofs.Records.{read-so, first-at}
 use Rattle.dayfile.proofs.Theorems.{made-accepted}
 
 -- ---- the first equal list
@@ -71,26 +71,9 @@ first-once b bs m n f g =
     (λ k. absurd (f .before (n - 1) (omega (arith, g .low)) (g .equal)))
     (λ k. omega arith))
 
--- ---- the rows of the table
+-- ---- record i of a list's file
 
-row-told : (f : List ℕ) → length f < 4294967296 → (bs : List (List ℕ)) (k q p : ℕ) (R : List ℕ)
-    → drop q f ≡ table p bs ++ R → drop p f ≡ flatten bs → p ≤ length f → k < length bs
-    → (numberAt f (q + 8 * k) ≡ p + length (flatten (take k bs))) × (numberAt f (q + 8 * k + 4) ≡ length (getD bs k []))
-unfolding flatten
-row-told f hf [] k q p R e1 e2 hp hk = absurd (omega arith)
-row-told f hf (b ∷ bs) zero q p R e1 e2 hp hk =
-    let w = peel f q p b bs R hf hp e1 e2 in
-    let z : q + 8 * 0 ≡ q = omega arith in
-    let y : p ≡ p + 0 = omega arith in
-    rw z (w .place ∙ y, w .long)
-row-told f hf (b ∷ bs) (suc k) q p R e1 e2 hp hk =
-    let w = peel f q p b bs R hf hp e1 e2 in
-    let z : q + 8 * suc k ≡ q + 8 + 8 * k = omega arith in
-    let i = row-told f hf bs k (q + 8) (p + length b) R (w .rows) (w .rest) (w .inside) (omega arith) in
-    let l = length-append b (flatten (take k bs)) in
-    rw z (i .0 ∙ omega arith, i .1)
-
-module _ (bs : List (List ℕ)) (listed : Listed bs) (i : ℕ) (some : 1 ≤ i) (most : i ≤ length bs) where
+module _ {L : Layout} (K : Lawful L) (bs : List (List ℕ)) (listed : Listed L bs) (i : ℕ) (some : 1 ≤ i) (most : i ≤ length bs) where
   abbrev f : List ℕ
   f = fileOf bs
 
@@ -108,27 +91,23 @@ module _ (bs : List (List ℕ)) (listed : Listed bs) (i : ℕ) (some : 1 ≤ i) 
 
   told : Told bs i place long first
   told =
-      let p = parted f bs listed refl in
-      let k : i - 1 < length bs = omega arith in
-      let n : i - 1 < countOf f = omega (arith, p .count) in
-      let r = row-told f (p .small) bs (i - 1) 4 (tableEnd (length bs)) (flatten bs) (p .rows) (p .rest) (p .room) k in
-      let z : 8 + 8 * (i - 1) ≡ 4 + 8 * (i - 1) + 4 = omega arith in
-      let these = bodies-file bs listed in
+      let p = parted K f bs listed refl in
+      let z : 0 + (i - 1) ≡ i - 1 = omega arith in
+      let r = row-of f (p .small) bs 0 (tableEnd (length bs)) (i - 1) (flatten bs) (p .rows) (p .rest) (p .room) (omega arith) in
       record {
-        place-is = r .0;
-        long-is = ap (numberAt f) z ∙ r .1;
-        bytes = record-here f (made-accepted bs listed) n refl refl .bytes ∙ ap (λ (l : List (List ℕ)). getD l (i - 1) []) these;
+        place-is = rw z at (r .place);
+        long-is = rw z at (r .long);
+        bytes = rw z at (r .body);
         counted = (first-of .0 .low, omega (arith, first-of .1));
         equal = first-of .0 .equal;
         none-before = λ j a b e. first-of .0 .before (j - 1) (omega arith) e;
       }
 
-  answers : readAnswer f i ≡ Record place long first
+  answers : readAnswer L f i ≡ Record place long first
   answers =
-      let p = parted f bs listed refl in
-      let n : numberAt f 0 ≡ countOf f = count-is f (numberAt f 0) refl in
-      sym (read-so f i (made-accepted bs listed) (λ e. omega arith) refl (omega (arith, p .count)) refl refl
-      (ap (λ (l : List (List ℕ)). firstSame (getD l (i - 1) []) l) (sym (bodies-file bs listed))))
+      let p = parted K f bs listed refl in
+      sym (read-so L f i (made-accepted K bs listed) (λ e. omega arith) (omega (arith, p .count)) refl refl
+      (ap (λ (l : List (List ℕ)). firstSame (getD l (i - 1) []) l) (sym (bodies-file K bs listed))))
 
   told-as : (p l n : ℕ) → Record place long first ≡ Record p l n → Told bs i p l n
   told-as p l n e =
@@ -138,7 +117,7 @@ module _ (bs : List (List ℕ)) (listed : Listed bs) (i : ℕ) (some : 1 ≤ i) 
       subst (λ (x : ℕ). Told bs i p l x) c (subst (λ (x : ℕ). Told bs i p x first) b (subst (λ (x : ℕ). Told bs i x long first) a told))
 
   -- READING RECORD i of a list's file tells exactly where body i stands, how long it is, and the first record with equal bytes
-  pub told-if : (p l n : ℕ) → (readAnswer f i ≡ Record p l n) ↔ Told bs i p l n
+  pub told-if : (p l n : ℕ) → (readAnswer L f i ≡ Record p l n) ↔ Told bs i p l n
   told-if p l n = (
     λ e. told-as p l n (sym answers ∙ e),
     λ t.

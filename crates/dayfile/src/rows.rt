@@ -1,25 +1,45 @@
-// The table of contents: a row for each record, its place and its length.
+// The table of contents: behind the count a row for each record, its place and then its length.
 use numbers::get;
+use numbers::put;
 ghost use mathlib.Core.Path.{_≡_};
-ghost use Rattle.dayfile.specs.Read.{placeOf, lengthOf};
+ghost use mathlib.Core.List.{_++_};
+ghost use Rattle.numbers.specs.Numbers.{bytesOf};
+ghost use Rattle.numbers.specs.Placed.{placed};
+ghost use Rattle.dayfile.specs.Day.{tableEnd, placeOf, lengthOf};
 
-// Where the first row has them, and the bytes of a row.
-const FIRST_PLACE: usize = 4;
-
-const FIRST_LENGTH: usize = 8;
+pub(crate) const COUNT_BYTES: usize = 4;
 
 const ROW_BYTES: usize = 8;
+
+// From a row's place to its length.
+const PLACE_BYTES: usize = 4;
+
+// Where a table of n rows ends, and row n would stand.
+pub(crate) fn table_end(n: u32) -> usize
+    ensures { λ r. ⌜ r ≡ tableEnd n ⌝ }
+{
+    COUNT_BYTES + ROW_BYTES * (n as usize)
+}
 
 // Where the table says that record k + 1 stands.
 pub fn record_place(file: &[u8], k: u32) -> usize
     ensures { λ r. ⌜ r ≡ placeOf (now (file .entry)) k ⌝ }
 {
-    get(file, FIRST_PLACE + ROW_BYTES * (k as usize)) as usize
+    get(file, table_end(k)) as usize
 }
 
 // How long the table says that record k + 1 is.
 pub fn record_length(file: &[u8], k: u32) -> usize
     ensures { λ r. ⌜ r ≡ lengthOf (now (file .entry)) k ⌝ }
 {
-    get(file, FIRST_LENGTH + ROW_BYTES * (k as usize)) as usize
+    get(file, table_end(k) + PLACE_BYTES) as usize
+}
+
+// Puts the row of record k + 1.
+pub(crate) fn put_row(file: &mut [u8], k: u32, place: u32, length: u32)
+    ensures { λ _. ⌜ now (file .exit) ≡ placed (now (file .entry)) (tableEnd k) (bytesOf place ++ bytesOf length) ⌝ }
+{
+    let row = table_end(k);
+    put(file, row, place);
+    put(file, row + PLACE_BYTES, length);
 }

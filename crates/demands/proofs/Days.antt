@@ -10,8 +10,9 @@ use lib.ListN.{length}
 use Rattle.ground.specs.Tests.{allOf}
 use Rattle.ground.proofs.Bools.{and-both}
 use Rattle.body.specs.Layout.{isBody}
-use Rattle.dayfile.specs.Day.{fileOf}
+use Rattle.dayfile.specs.Day.{page, fileOf}
 use Rattle.dayfile.specs.Make.{Makes, fileIn}
+use Rattle.dayfile.proofs.Layouts.{page-lawful}
 use Rattle.dayfile.proofs.MadeFiles.{file-is, one-list-made}
 use Rattle.demands.specs.Days.{Key, bytes, AllAgree}
 use Rattle.demands.proofs.Agreeing.{bodies-agree, body-of-layout}
@@ -39,9 +40,9 @@ same-agree (k ∷ ks) (j ∷ js) e = (
 )
 
 -- THEOREM: two day files that were made of keys are the same bytes exactly if the keys agree one by one
-pub days-agree : (ks js : List Key) {out out′ : List ℕ} (w : Makes (map bytes ks) out) (w′ : Makes (map bytes js) out′)
+pub days-agree : (ks js : List Key) {out out′ : List ℕ} (w : Makes page (map bytes ks) out) (w′ : Makes page (map bytes js) out′)
     → (fileIn w ≡ fileIn w′) ↔ AllAgree ks js
 days-agree ks js w w′ = (
-  (λ e. same-agree ks js (one-list-made (map bytes ks) (map bytes js) (all-bodies ks) (all-bodies js) w w′ e)),
-  (λ g. file-is (map bytes ks) (all-bodies ks) w ∙ ap fileOf (agree-same ks js g) ∙ sym (file-is (map bytes js) (all-bodies js) w′)),
+  (λ e. same-agree ks js (one-list-made page-lawful (map bytes ks) (map bytes js) (all-bodies ks) (all-bodies js) w w′ e)),
+  (λ g. file-is page-lawful (map bytes ks) (all-bodies ks) w ∙ ap fileOf (agree-same ks js g) ∙ sym (file-is page-lawful (map bytes js) (all-bodies js) w′)),
 )

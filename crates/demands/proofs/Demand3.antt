@@ -10,6 +10,7 @@ use mathlib.Core.Logic.{_↔_}
 use mathlib.Core.List.{List, map}
 use Prim.Native.Nat.{ℕ}
 use Rattle.wave.specs.Wave.{waveIn}
+use Rattle.dayfile.specs.Day.{page}
 use Rattle.dayfile.specs.Make.{Makes, fileIn}
 use Rattle.demands.specs.History.{Calls, blocksAt, lastOf, History}
 use Rattle.demands.specs.Closing.{EachHandsBack}
@@ -18,6 +19,7 @@ use Rattle.demands.specs.Days.{Key, bytes}
 use Rattle.demands.proofs.Histories.{tells}
 use Rattle.demands.proofs.Agreeing.{bodies-agree}
 use Rattle.demands.proofs.Days.{all-bodies}
+use Rattle.dayfile.proofs.Layouts.{page-lawful}
 use Rattle.dayfile.proofs.MadeFiles.{one-list-made}
 
 -- "Every block that closes hands back exactly the lanes that entered it, less those that since halted or broke or continued an outer loop."
@@ -35,6 +37,6 @@ same-key = bodies-agree
 
 -- "No two different lists of keys give the same day file."
 -- `Makes`: the maker of day files, lent the keys one after another and `out`, made a file, and `fileIn` is its bytes.
-pub one-day : (ks js : List Key) {out out′ : List ℕ} (w : Makes (map bytes ks) out) (w′ : Makes (map bytes js) out′) → fileIn w ≡ fileIn w′
+pub one-day : (ks js : List Key) {out out′ : List ℕ} (w : Makes page (map bytes ks) out) (w′ : Makes page (map bytes js) out′) → fileIn w ≡ fileIn w′
     → map bytes ks ≡ map bytes js
-one-day ks js w w′ e = one-list-made (map bytes ks) (map bytes js) (all-bodies ks) (all-bodies js) w w′ e
+one-day ks js w w′ e = one-list-made page-lawful (map bytes ks) (map bytes js) (all-bodies ks) (all-bodies js) w w′ e

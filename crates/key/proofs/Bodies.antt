@@ -20,7 +20,7 @@ use Rattle.body.specs.Body.{Parts, bodyFormat, setBytes, bytesOfBody, sizeAt}
 use Rattle.body.specs.Layout.{kindLists, fitsLayout, mostDepth, starts, startsBody, bodyAnswer}
 use Rattle.body.specs.Places.{kindsPlace}
 use Rattle.body.proofs.Places.{length-body}
-use Rattle.body.proofs.Starts.{fits-of, of-starts}
+use Rattle.body.proofs.Starts.{fits-of, starts-of}
 use Rattle.body.proofs.Written.{parts-back, size-back}
 use Rattle.body.proofs.Answers.{length-says, refused-says}
 use Rattle.wave.specs.declared.state.State.{State}
@@ -122,7 +122,7 @@ pub copy-long : (s : List ℕ) (k : ℕ) → Length k ≡ bodyAnswer s 0 → k �
 copy-long s k e =
     let z = length-says s 0 k e in
     let size : k ≡ sizeAt s = z .1 in
-    let r = z .0 .room in
+    let r = starts-of kindLists setBytes s (z .0) .room in
     sym (length-take-le k s (omega arith))
 
 module _ (s out : List ℕ) where
@@ -135,7 +135,7 @@ module _ (s out : List ℕ) where
   copy-short k e h =
       let z = length-says s 0 k e in
       let size : k ≡ sizeAt s = z .1 in
-      simp (of-starts s (z .0), lt-leb (sizeAt s) (length out) (omega arith))
+      simp (z .0, lt-leb (sizeAt s) (length out) (omega arith))
 
   pub copy-so : (k : ℕ) (now : List ℕ) → Length k ≡ bodyAnswer s 0 → k ≤ length out → now ≡ placed out 0 (take k s)
       → keyed (Wrote k) now ≡ copied s out
@@ -143,7 +143,7 @@ module _ (s out : List ℕ) where
   copy-so k now e h p =
       let z = length-says s 0 k e in
       let size : k ≡ sizeAt s = z .1 in
-      simp (of-starts s (z .0), le-leb (sizeAt s) (length out) (omega arith)) (rw (p, size))
+      simp (z .0, le-leb (sizeAt s) (length out) (omega arith)) (rw (p, size))
 
 -- ---- what was put is what is copied
 

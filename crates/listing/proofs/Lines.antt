@@ -18,9 +18,10 @@ use Rattle.lanes.specs.declared.said.Fault.{Fault}
 use Rattle.body.specs.Body.{setBytes, partsAt, noFault}
 use Rattle.body.specs.Layout.{kindLists, isBody}
 use Rattle.body.proofs.Starts.{body-starts, page-count}
-use Rattle.dayfile.specs.Day.{mostRecords}
+use Rattle.dayfile.specs.Day.{mostRecords, page, countOf, placeOf, lengthOf}
 use Rattle.ground.proofs.Tests.{true-or-false, all-at}
-use Rattle.dayfile.specs.Read.{countOf, bodiesOf, refusalOf, placeOf, lengthOf, firstsOf, counted, firstsIn}
+use Rattle.dayfile.specs.Read.{bodiesOf, refusalOf, firstsOf, counted, firstsIn}
+use Rattle.dayfile.proofs.Layouts.{page-lawful}
 use Rattle.dayfile.proofs.Lists.{all-first, all-rest, count-bodies, accepted-listed}
 use Rattle.dayfile.proofs.Records.{file-room, record-here, length-firsts, count-says, refused-count-says}
 use Rattle.dayfile.specs.declared.answer.CountAnswer.{CountAnswer}
@@ -125,8 +126,8 @@ lines-long i [] bs e = omega arith
 lines-long i (f ∷ fs) [] e = omega arith
 lines-long i (f ∷ fs) (b ∷ bs) e =
     let a = length-append (line i f (partsAt b)) (lines (i + 1) fs bs) in
-    let h = line-long i f b (all-first b bs e) in
-    let r = lines-long (i + 1) fs bs (all-rest b bs e) in
+    let h = line-long i f b (all-first page b bs e) in
+    let r = lines-long (i + 1) fs bs (all-rest page b bs e) in
     omega arith
 
 -- ---- turns of the loop that puts the lines
@@ -237,31 +238,31 @@ table-long fs bs e h =
 
 -- the m bytes from a on, as the code cuts them out, are record k + 1
 pub record Cut (f : List ℕ) (k a m : ℕ) : Type 0 where
-  pub few : k < length (bodiesOf f)
+  pub few : k < length (bodiesOf page f)
   pub inside : a + m ≤ length f
-  pub same : take (a + m - a) (drop a f) ≡ getD (bodiesOf f) k []
+  pub same : take (a + m - a) (drop a f) ≡ getD (bodiesOf page f) k []
   pub whole : isBody (take (a + m - a) (drop a f)) ≡ true
 
-module _ (f fs : List ℕ) (ok : refusalOf f ≡ 0) (e : fs ≡ firstsOf (bodiesOf f)) where
+module _ (f fs : List ℕ) (ok : refusalOf page f ≡ 0) (e : fs ≡ firstsOf (bodiesOf page f)) where
   listed-count : length fs ≡ countOf f
-  listed-count = ap length e ∙ length-firsts (bodiesOf f) ∙ count-bodies f
+  listed-count = ap length e ∙ length-firsts (bodiesOf page f) ∙ count-bodies page f
 
   pub listed-few : length fs ≤ mostRecords
-  listed-few = omega (arith, listed-count, count-bodies f, accepted-listed f ok .few)
+  listed-few = omega (arith, listed-count, count-bodies page f, accepted-listed page-lawful f ok .few)
 
-  pub listed-near : {o o1 : List ℕ} {at r : ℕ} → Puts o at (lines 1 fs (bodiesOf f)) r o1 → r ≤ at + 147 * length fs
-  listed-near = puts-near (147 * length fs) (lines-long 1 fs (bodiesOf f) (accepted-listed f ok .each))
+  pub listed-near : {o o1 : List ℕ} {at r : ℕ} → Puts o at (lines 1 fs (bodiesOf page f)) r o1 → r ≤ at + 147 * length fs
+  listed-near = puts-near (147 * length fs) (lines-long 1 fs (bodiesOf page f) (accepted-listed page-lawful f ok .each))
 
   pub listed-cut : {k a m : ℕ} → k < length fs → a ≡ placeOf f k → m ≡ lengthOf f k → Cut f k a m
   listed-cut {k} {a} {m} h ea em =
-      let r = record-here f ok (omega (arith, listed-count)) ea em in
+      let r = record-here page-lawful f ok (omega (arith, listed-count)) ea em in
       let z : a + m - a ≡ m = omega arith in
       let s = ap (λ (j : ℕ). take j (drop a f)) z ∙ r .bytes in
       record {
         few = r .counted;
         inside = r .inside;
         same = s;
-        whole = ap isBody s ∙ all-at isBody (bodiesOf f) k [] (accepted-listed f ok .each) (r .counted);
+        whole = ap isBody s ∙ all-at isBody (bodiesOf page f) k [] (accepted-listed page-lawful f ok .each) (r .counted);
       }
 
 -- ---- the whole text
@@ -271,13 +272,13 @@ unfolding textOf
 text-long f h = simp (lt-ltb mostBytes (length f) h)
 
 module _ (f : List ℕ) (short : length f ≤ mostBytes) where
-  pub text-table : (fs : List ℕ) → refusalOf f ≡ 0 → fs ≡ firstsOf (bodiesOf f) → tableText fs (bodiesOf f) ≡ textOf f
+  pub text-table : (fs : List ℕ) → refusalOf page f ≡ 0 → fs ≡ firstsOf (bodiesOf page f) → tableText fs (bodiesOf page f) ≡ textOf f
   unfolding textOf
-  text-table fs ok e = simp (le-ltb mostBytes (length f) short, eq-eqb (refusalOf f) 0 ok) (ap (λ (l : List ℕ). tableText l (bodiesOf f)) e)
+  text-table fs ok e = simp (le-ltb mostBytes (length f) short, eq-eqb (refusalOf page f) 0 ok) (ap (λ (l : List ℕ). tableText l (bodiesOf page f)) e)
 
-  pub text-refused : (k : ℕ) → (refusalOf f ≡ 0 → ⊥) → k ≡ refusalOf f → refusedText ++ field k newline ≡ textOf f
+  pub text-refused : (k : ℕ) → (refusalOf page f ≡ 0 → ⊥) → k ≡ refusalOf page f → refusedText ++ field k newline ≡ textOf f
   unfolding textOf
-  text-refused k h e = simp (le-ltb mostBytes (length f) short, ne-eqb (refusalOf f) 0 h) (rw e)
+  text-refused k h e = simp (le-ltb mostBytes (length f) short, ne-eqb (refusalOf page f) 0 h) (rw e)
 
 -- every text fits a buffer of 160,000 bytes
 pub text-room : (f : List ℕ) → length (textOf f) ≤ textRoom
@@ -287,34 +288,34 @@ text-room f =
     (λ (h : ltb mostBytes (length f) ≡ true). simp h (omega arith))
     (λ (h : ltb mostBytes (length f) ≡ false).
     ⊎-elim
-    (λ (k : eqb (refusalOf f) 0 ≡ true).
-    let ok = eqb-true (refusalOf f) 0 k in
-    let fs = firstsOf (bodiesOf f) in
-    simp (h, k) (table-long fs (bodiesOf f) (accepted-listed f ok .each) (listed-few f fs ok refl)))
-    (λ (k : eqb (refusalOf f) 0 ≡ false).
-    let a = length-append refusedText (field (refusalOf f) newline) in
-    let b = field-long (refusalOf f) newline in
+    (λ (k : eqb (refusalOf page f) 0 ≡ true).
+    let ok = eqb-true (refusalOf page f) 0 k in
+    let fs = firstsOf (bodiesOf page f) in
+    simp (h, k) (table-long fs (bodiesOf page f) (accepted-listed page-lawful f ok .each) (listed-few f fs ok refl)))
+    (λ (k : eqb (refusalOf page f) 0 ≡ false).
+    let a = length-append refusedText (field (refusalOf page f) newline) in
+    let b = field-long (refusalOf page f) newline in
     simp (h, k) (omega arith))
-    (true-or-false (eqb (refusalOf f) 0)))
+    (true-or-false (eqb (refusalOf page f) 0)))
     (true-or-false (ltb mostBytes (length f)))
 
 -- ---- what `firsts` answered, into a buffer of 1,024 numbers
 
 -- n records were counted, and as many numbers are their first equal ones
 pub record Counted (f : List ℕ) (n : ℕ) (out : List ℕ) : Type 0 where
-  pub accepted : refusalOf f ≡ 0
+  pub accepted : refusalOf page f ≡ 0
   pub within : n ≤ length out
-  pub firsts : take n out ≡ firstsOf (bodiesOf f)
+  pub firsts : take n out ≡ firstsOf (bodiesOf page f)
 
-module _ (f o out : List ℕ) (r : CountAnswer) (room : length o ≡ mostRecords) (e : counted r out ≡ firstsIn f o) where
-  fits : refusalOf f ≡ 0 → countOf f ≤ length o
-  fits h = let n = file-room f h .0 in omega arith
+module _ (f o out : List ℕ) (r : CountAnswer) (room : length o ≡ mostRecords) (e : counted r out ≡ firstsIn page f o) where
+  fits : refusalOf page f ≡ 0 → countOf f ≤ length o
+  fits h = let n = file-room page-lawful f h .0 in omega arith
 
   pub firsts-counted : (n : ℕ) → r ≡ Count n → Counted f n out
   firsts-counted n h =
-      let c = count-says f o out fits n (ap (λ (a : CountAnswer). counted a out) (sym h) ∙ e) in
-      let fs = firstsOf (bodiesOf f) in
-      let l : length fs ≡ countOf f = length-firsts (bodiesOf f) ∙ count-bodies f in
+      let c = count-says page f o fits n (ap (λ (a : CountAnswer). counted a out) (sym h) ∙ e) in
+      let fs = firstsOf (bodiesOf page f) in
+      let l : length fs ≡ countOf f = length-firsts (bodiesOf page f) ∙ count-bodies page f in
       let k = fits (c .0) in
       let en = c .1 in
       let lo = ap length (c .2) ∙ length-placed o 0 fs in
@@ -325,5 +326,5 @@ module _ (f o out : List ℕ) (r : CountAnswer) (room : length o ≡ mostRecords
         firsts = ap (take n) (c .2 ∙ p) ∙ take-at fs (drop (length fs) o) n (l ∙ sym en);
       }
 
-  pub firsts-not : (x : Refusal) → r ≡ NotCounted x → (refusalOf f ≡ 0 → ⊥) × (x .number ≡ refusalOf f)
-  firsts-not x h = refused-count-says f o out fits x (ap (λ (a : CountAnswer). counted a out) (sym h) ∙ e)
+  pub firsts-not : (x : Refusal) → r ≡ NotCounted x → (refusalOf page f ≡ 0 → ⊥) × (x .number ≡ refusalOf page f)
+  firsts-not x h = refused-count-says page f o fits x (ap (λ (a : CountAnswer). counted a out) (sym h) ∙ e)

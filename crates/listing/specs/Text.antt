@@ -6,6 +6,7 @@ use lib.Dec.{ltb, eqb}
 use lib.ListN.{length}
 use Rattle.lanes.specs.declared.said.Fault.{Fault}
 use Rattle.body.specs.Body.{Parts, partsAt}
+use Rattle.dayfile.specs.Day.{page}
 use Rattle.dayfile.specs.Read.{bodiesOf, refusalOf, firstsOf}
 use Rattle.listing.specs.Decimal.{field}
 
@@ -80,4 +81,4 @@ tableText fs bs = headText ++ (lines 1 fs bs ++ totalLine (length fs) (distinct 
 unfoldable pub textOf : List ℕ → List ℕ
 textOf f =
     cond (ltb mostBytes (length f)) longText
-    (cond (eqb (refusalOf f) 0) (tableText (firstsOf (bodiesOf f)) (bodiesOf f)) (refusedText ++ field (refusalOf f) newline))
+    (cond (eqb (refusalOf page f) 0) (tableText (firstsOf (bodiesOf page f)) (bodiesOf page f)) (refusedText ++ field (refusalOf page f) newline))

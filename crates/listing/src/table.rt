@@ -17,6 +17,7 @@ ghost use lib.ListN.{length};
 ghost use Rattle.lanes.specs.declared.said.Fault.{Fault};
 ghost use Rattle.body.specs.Body.{Parts, partsAt};
 ghost use Rattle.body.specs.Layout.{isBody};
+ghost use Rattle.dayfile.specs.Day.{page};
 ghost use Rattle.dayfile.specs.Read.{bodiesOf, refusalOf, firstsOf};
 ghost use Rattle.numbers.specs.Placed.{Puts};
 ghost use Rattle.listing.specs.Text.{textRoom, kindsText, line, lines, distinct, totalLine, tableText};
@@ -49,8 +50,8 @@ fn put_line(out: &mut [u8], at: usize, i: usize, first: u32, body: &[u8]) -> usi
 
 // Puts the lines of an accepted file's records.
 fn put_lines(out: &mut [u8], at: usize, file: &[u8], firsts: &[u32]) -> usize
-    requires { ⌜ (refusalOf (now file) ≡ 0) × ((now firsts ≡ firstsOf (bodiesOf (now file))) × (at + 147 * length (now firsts) ≤ textRoom)) ⌝ }
-    ensures { λ r. ⌜ Puts (now (out .entry)) at (lines 1 (now (firsts .entry)) (bodiesOf (now (file .entry)))) r (now (out .exit)) ⌝ }
+    requires { ⌜ (refusalOf page (now file) ≡ 0) × ((now firsts ≡ firstsOf (bodiesOf page (now file))) × (at + 147 * length (now firsts) ≤ textRoom)) ⌝ }
+    ensures { λ r. ⌜ Puts (now (out .entry)) at (lines 1 (now (firsts .entry)) (bodiesOf page (now (file .entry)))) r (now (out .exit)) ⌝ }
 {
     let mut q = at;
     let mut k: usize = 0;
@@ -92,8 +93,8 @@ fn put_total(out: &mut [u8], at: usize, total: u64, first_ones: u64) -> usize
 
 // Puts the listing of an accepted file's records.
 pub(crate) fn put_table(out: &mut [u8], file: &[u8], firsts: &[u32]) -> usize
-    requires { ⌜ (refusalOf (now file) ≡ 0) × (now firsts ≡ firstsOf (bodiesOf (now file))) ⌝ }
-    ensures { λ r. ⌜ Puts (now (out .entry)) 0 (tableText (now (firsts .entry)) (bodiesOf (now (file .entry)))) r (now (out .exit)) ⌝ }
+    requires { ⌜ (refusalOf page (now file) ≡ 0) × (now firsts ≡ firstsOf (bodiesOf page (now file))) ⌝ }
+    ensures { λ r. ⌜ Puts (now (out .entry)) 0 (tableText (now (firsts .entry)) (bodiesOf page (now (file .entry)))) r (now (out .exit)) ⌝ }
 {
     let first_ones = count_distinct(firsts) as u64;
     let q1 = put_text(out, 0, b"record first kernel place kinds depth\n");

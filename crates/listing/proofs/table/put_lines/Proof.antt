@@ -4,14 +4,14 @@ use mathlib.Core.Path.{refl}
 use Prim.Native.Nat.{_-_, _≤_}
 use native.Mathlib.Omega.{arith}
 use lib.ListN.{length}
-use Rattle.dayfile.specs.Day.{mostRecords}
+use Rattle.dayfile.specs.Day.{mostRecords, page}
 use Rattle.dayfile.specs.Read.{bodiesOf}
 use Rattle.listing.proofs.Lines.{Cut, listed-few, listed-cut, Lining, lining-start, lining-turn, lining-end}
 use Rattle.listing.proofs.table.put_lines.Statement.{statement}
 use Rattle.listing.proofs.table.put_lines.Tie as tie
 
 abbrev Inv-loop : tie.InvT-loop
-Inv-loop out₀ at file firsts q₀ k₀ out q k = Lining out₀ at firsts (bodiesOf file) out q k
+Inv-loop out₀ at file firsts q₀ k₀ out q k = Lining out₀ at firsts (bodiesOf page file) out q k
 
 abbrev μ-loop : tie.MeasureT-loop
 μ-loop out₀ at file firsts q₀ k₀ out q k = length firsts - k
