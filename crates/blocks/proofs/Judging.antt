@@ -14,12 +14,10 @@ use Rattle.blocks.specs.declared.rules.Turn.{Turn}
 use Rattle.blocks.specs.declared.rules.Turn.the-variants.{Go, Close, Enter, Stop}
 use Rattle.blocks.specs.declared.structure.Checked.the-variants.{Refused}
 use Rattle.blocks.specs.Code.{Code}
-use Rattle.blocks.specs.Open.{nesting, Part, before, after, looping, Open, open-at, inLoop}
+use Rattle.blocks.specs.Open.{nesting, Part, before, after, looping, Open, open-at, inLoop, loops, insideOf, innermost}
 use Rattle.blocks.specs.Scan.{Next, over, go, stray, opens, ended, react}
-use Rattle.blocks.specs.OpenAt.{loops}
 use Rattle.blocks.specs.Rules.{opening, turnOf}
 use Rattle.blocks.specs.Levels.{around, InLevel}
-use Rattle.blocks.specs.Nesting.{insideOf, innermost}
 use Rattle.blocks.proofs.Widths.{Ok, Fits}
 
 -- where a turn that goes on leads

@@ -12,11 +12,10 @@ use Rattle.blocks.specs.declared.rules.Turn.the-variants.{Go, Close, Ent
 use Rattle.blocks.specs.declared.structure.LevelEnd.{LevelEnd}
 use Rattle.blocks.specs.declared.structure.Checked.the-variants.{Fine, Refused}
 use Rattle.blocks.specs.Code.{Code}
-use Rattle.blocks.specs.Open.{nesting, Open, open-at, inLoop}
+use Rattle.blocks.specs.Open.{nesting, Open, open-at, inLoop, innermost}
 use Rattle.blocks.specs.Scan.{over, go, ended, react, run, checkOf}
 use Rattle.blocks.specs.Rules.{turnOf}
 use Rattle.blocks.specs.Levels.{around, InLevel, follows, LevelSays}
-use Rattle.blocks.specs.Nesting.{innermost}
 use Rattle.blocks.proofs.Widths.{Fits}
 use Rattle.blocks.proofs.Passes.{run-to, run-past}
 use Rattle.blocks.proofs.Judging.{Gone, Entered, told, TurnOk, turned-ok, NotClose, nothing-closes}

@@ -9,9 +9,8 @@ use Rattle.blocks.specs.declared.rules.Inside.{Inside}
 use Rattle.blocks.specs.declared.structure.LevelEnd.{LevelEnd}
 use Rattle.blocks.specs.declared.structure.Checked.{Checked}
 use Rattle.blocks.specs.Code.{Code}
-use Rattle.blocks.specs.Open.{nesting, Open, open-at, inLoop}
+use Rattle.blocks.specs.Open.{nesting, Open, open-at, inLoop, innermost}
 use Rattle.blocks.specs.Scan.{ended, run}
-use Rattle.blocks.specs.Nesting.{innermost}
 
 -- the blocks around the innermost
 unfoldable pub around : List Open → List Open

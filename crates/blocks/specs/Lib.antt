@@ -2,8 +2,5 @@ pub mod Item
 pub mod Open
 pub mod Code
 pub mod Scan
-pub mod Nesting
-pub mod OpenAt
 pub mod Rules
 pub mod Levels
-pub mod Stacks

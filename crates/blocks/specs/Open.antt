@@ -1,7 +1,8 @@
 -- The open blocks: the room for nesting, a block's part, and whether a loop is open. Page 01, "Blocks" and "The key".
-use Prim.Native.Nat.{ℕ}
+use Prim.Native.Nat.{ℕ, _+_}
 use mathlib.Core.Bool.{Bool, true, false}
 use mathlib.Core.List.{List, [], _∷_}
+use Rattle.blocks.specs.declared.rules.Inside.{Inside}
 
 -- the room for nesting
 abbrev pub nesting : ℕ
@@ -35,3 +36,24 @@ inLoop [] = false
 inLoop (open-at before p ∷ o) = inLoop o
 inLoop (open-at after p ∷ o) = inLoop o
 inLoop (open-at looping p ∷ o) = true
+
+-- how many of the open blocks are loops
+abbrev pub oneIfLoop : Part → ℕ → ℕ
+oneIfLoop before n = n
+oneIfLoop after n = n
+oneIfLoop looping n = n + 1
+
+unfoldable pub loops : List Open → ℕ
+loops [] = 0
+loops (open-at part p ∷ o) = oneIfLoop part (loops o)
+
+-- what a place stands directly inside of
+abbrev pub insideOf : Part → Inside
+insideOf before = Inside.Before
+insideOf after = Inside.After
+insideOf looping = Inside.Loop
+
+-- what the innermost open block is
+unfoldable pub innermost : List Open → Inside
+innermost [] = Inside.Nothing
+innermost (open-at part p ∷ o) = insideOf part

@@ -1,5 +1,4 @@
-// The blocks of a kernel's code: whether they are well built, and which are open at a place.
+// The blocks of a kernel's code: the rules, and the check.
 pub mod item;
-pub mod places;
-mod rules;
+pub mod rules;
 pub mod structure;

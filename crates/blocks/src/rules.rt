@@ -74,7 +74,7 @@ fn at_endloop(stray: Refusal, inside: Inside) -> Turn
 }
 
 // One instruction at a place, where so much room is left, directly inside this, and in a loop or not.
-pub(crate) fn judge(item: Item, at: usize, room: usize, inside: Inside, in_loop: bool) -> Turn
+pub fn judge(item: Item, at: usize, room: usize, inside: Inside, in_loop: bool) -> Turn
     ensures { λ r. ⌜ r ≡ turnOf item at room inside in_loop ⌝ }
 {
     let stray = Refusal {

@@ -10,7 +10,7 @@ use Rattle.words.specs.Fetching.{fetchAt}
 use Rattle.blocks.specs.Item.{itemAt}
 use Rattle.blocks.specs.Open.{inLoop}
 use Rattle.blocks.specs.Scan as blocks
-use Rattle.blocks.specs.OpenAt as places
+use Rattle.nesting.specs.OpenAt as places
 use Rattle.control.specs.Control as control
 use Rattle.faulting.specs.Causes.{faultLanes}
 use Rattle.lanes.specs.declared.said.Block.{Block}

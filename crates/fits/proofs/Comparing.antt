@@ -13,13 +13,13 @@ use lib.Seq.{getD-set-same, getD-set-other}
 use lib.Dec.{eqb, leb}
 use Rattle.lanes.specs.Sets.{first, widest}
 use Rattle.blocks.specs.declared.item.Reading.{Reading}
-use Rattle.blocks.specs.declared.places.OpenAt.{OpenAt}
+use Rattle.nesting.specs.declared.places.OpenAt.{OpenAt}
 use Rattle.blocks.specs.Code.{codeOf}
 use Rattle.blocks.specs.Open.{nesting, Open, partNumberOf, openerOf}
-use Rattle.blocks.specs.OpenAt.{Found, nowhere, there, openAt, shown, filled}
+use Rattle.nesting.specs.OpenAt.{Found, nowhere, there, openAt, shown, filled}
 use Rattle.blocks.proofs.Widths.{code-fits}
-use Rattle.blocks.proofs.Openers.{at-most}
-use Rattle.blocks.proofs.Stacks.{length-filled}
+use Rattle.nesting.proofs.Openers.{at-most}
+use Rattle.nesting.proofs.Stacks.{length-filled}
 use Rattle.lanes.specs.declared.said.Block.{Block}
 use Rattle.wave.specs.declared.state.Hot.{Hot}
 use Rattle.wave.specs.Layout.{opened}

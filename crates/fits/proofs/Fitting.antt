@@ -14,7 +14,7 @@ use Rattle.lanes.proofs.Bits.{bit-le, bit-zero, bit-or, set-ext, apart-sum, sum
 use Rattle.blocks.specs.declared.item.Reading.{Reading}
 use Rattle.blocks.specs.Code.{codeOf}
 use Rattle.blocks.specs.Open.{nesting, Open, partNumberOf, openerOf}
-use Rattle.blocks.specs.OpenAt.{Found, nowhere, there, openAt}
+use Rattle.nesting.specs.OpenAt.{Found, nowhere, there, openAt}
 use Rattle.lanes.specs.declared.said.Block.{Block}
 use Rattle.wave.specs.declared.state.Hot.{Hot}
 use Rattle.wave.specs.Wave.{Wave, Preds, waveOf, predsOf}

@@ -11,9 +11,9 @@ use Rattle.lanes.proofs.Bits.{within-first-lt}
 use Rattle.blocks.specs.declared.item.Reading.{Reading}
 use Rattle.blocks.specs.Code.{codeOf}
 use Rattle.blocks.specs.Open.{Part, before, after, looping, Open, open-at, partNumber}
-use Rattle.blocks.specs.OpenAt.{Found, nowhere, there, openAt}
+use Rattle.nesting.specs.OpenAt.{Found, nowhere, there, openAt}
 use Rattle.blocks.proofs.Widths.{code-fits}
-use Rattle.blocks.proofs.Openers.{EachOpened, each-opened}
+use Rattle.nesting.proofs.Openers.{EachOpened, each-opened}
 use Rattle.lanes.specs.declared.said.Block.{Block}
 use Rattle.wave.specs.Wave.{Wave, Preds}
 use Rattle.wave.specs.Layout.{beforeElse, loopPart}

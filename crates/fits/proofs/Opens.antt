@@ -14,12 +14,12 @@ use Rattle.words.proofs.Standing.{stood}
 use Rattle.blocks.specs.declared.item.Reading.{Reading}
 use Rattle.blocks.specs.Code.{codeOf}
 use Rattle.blocks.specs.Open.{nesting, Open}
-use Rattle.blocks.specs.OpenAt.{Found, nowhere, there, openAt}
-use Rattle.blocks.specs.Nesting.{Nested}
+use Rattle.nesting.specs.OpenAt.{Found, nowhere, there, openAt}
+use Rattle.nesting.specs.Nesting.{Nested}
 use Rattle.blocks.proofs.Widths.{code-fits}
-use Rattle.blocks.proofs.Induction.{found-within}
-use Rattle.blocks.proofs.Nested.{opened-room, opened-if, passes-if}
-use Rattle.blocks.proofs.Instructions.{instruction-there}
+use Rattle.nesting.proofs.Induction.{found-within}
+use Rattle.nesting.proofs.Nested.{opened-room, opened-if, passes-if}
+use Rattle.nesting.proofs.Instructions.{instruction-there}
 use Rattle.lanes.specs.declared.said.Block.{Block}
 use Rattle.wave.specs.declared.state.Hot.{Hot}
 use Rattle.wave.specs.Layout.{opened}

@@ -21,11 +21,11 @@ use Rattle.blocks.specs.Item.{controlItem, itemAt}
 use Rattle.blocks.specs.Code.{codeOf}
 use Rattle.blocks.specs.Open.{nesting, Open, open-at, before, after, looping, inLoop}
 use Rattle.blocks.specs.Scan.{checkOf}
-use Rattle.blocks.specs.OpenAt.{Found, nowhere, there, openAt}
+use Rattle.nesting.specs.OpenAt.{Found, nowhere, there, openAt}
 use Rattle.blocks.proofs.Widths.{code-fits}
-use Rattle.blocks.proofs.Induction.{open-at-start}
-use Rattle.blocks.proofs.Openers.{at-most, EachOpened, each-opened}
-use Rattle.blocks.proofs.Theorems.{Allowed, allowed}
+use Rattle.nesting.proofs.Induction.{open-at-start}
+use Rattle.nesting.proofs.Openers.{at-most, EachOpened, each-opened}
+use Rattle.nesting.proofs.Theorems.{Allowed, allowed}
 use Rattle.lanes.specs.declared.said.Block.{Block}
 use Rattle.wave.specs.Wave.{Wave, Preds, launch, clear, stateOf}
 use Rattle.wave.specs.Layout.{isLoop}

@@ -9,7 +9,7 @@ use Rattle.instructions.specs.declared.instr.Instr.{Instr}
 use Rattle.words.specs.Rules.{Stands}
 use Rattle.blocks.specs.declared.item.Reading.{Reading}
 use Rattle.blocks.specs.Open.{Open}
-use Rattle.blocks.specs.Nesting.{Opened}
+use Rattle.nesting.specs.Nesting.{Opened}
 use Rattle.lanes.specs.declared.said.Block.{Block}
 use Rattle.wave.specs.declared.state.Hot.{Hot}
 use Rattle.wave.specs.Layout.{opened}

@@ -1,7 +1,7 @@
 // Whether the open blocks of a handed-in state are those that the code has open at its place.
 use blocks::item::Reading;
-use blocks::places::Stack;
-use blocks::places::open_at;
+use nesting::places::Stack;
+use nesting::places::open_at;
 use wave::state::BLOCK_NUMBERS;
 use wave::state::Hot;
 use wave::state::OPENER;
@@ -11,7 +11,7 @@ ghost use mathlib.Core.Path.{_≡_};
 ghost use Prim.Native.Nat.{_≤_, _<_};
 ghost use Rattle.blocks.specs.Code.{codeOf};
 ghost use Rattle.blocks.specs.Open.{nesting};
-ghost use Rattle.blocks.specs.OpenAt.{openAt};
+ghost use Rattle.nesting.specs.OpenAt.{openAt};
 ghost use Rattle.wave.specs.Wave.{waveOf};
 ghost use Rattle.fits.specs.FitsTest.{placeTest, sameBlock, sameBlocks};
 

@@ -19,9 +19,9 @@ use Rattle.blocks.specs.declared.structure.Checked.the-variants.{Fine}
 use Rattle.blocks.specs.Code.{Code, codeOf}
 use Rattle.blocks.specs.Scan.{checkOf}
 use Rattle.blocks.proofs.Refusing.{refused-not-fine, same-refusal}
-use Rattle.blocks.specs.Nesting.{Nested}
-use Rattle.blocks.proofs.Nested.{passes-if}
-use Rattle.blocks.proofs.Breaking.{refused-if}
+use Rattle.nesting.specs.Nesting.{Nested}
+use Rattle.nesting.proofs.Nested.{passes-if}
+use Rattle.nesting.proofs.Breaking.{refused-if}
 use Rattle.wave.specs.declared.state.State.{State}
 use Rattle.fits.specs.Fits as wave
 use Rattle.fits.specs.FitsTest.{fitsTest}

@@ -21,8 +21,8 @@ use Rattle.blocks.specs.declared.structure.Checked.the-variants.{Fine}
 use Rattle.blocks.specs.Item.{itemBy, itemOf, itemAt}
 use Rattle.blocks.specs.Code.{codeOf}
 use Rattle.blocks.specs.Scan.{checkOf}
-use Rattle.blocks.specs.OpenAt.{Found, nowhere, there, openAt}
-use Rattle.blocks.proofs.Instructions.{Instruction, instruction-there}
+use Rattle.nesting.specs.OpenAt.{Found, nowhere, there, openAt}
+use Rattle.nesting.proofs.Instructions.{Instruction, instruction-there}
 use Rattle.lanes.specs.declared.said.Block.{Block}
 use Rattle.wave.specs.Wave.{Wave, Preds}
 use Rattle.control.specs.Control.{controlRule}

@@ -20,8 +20,8 @@ use Rattle.words.proofs.Standing.{stood, read-span}
 use Rattle.words.proofs.Fetches.{fetched}
 use Rattle.blocks.specs.Code.{codeOf}
 use Rattle.blocks.specs.Item.{itemOf}
-use Rattle.blocks.specs.OpenAt.{openAt}
-use Rattle.blocks.specs.Nesting.{Nested}
+use Rattle.nesting.specs.OpenAt.{openAt}
+use Rattle.nesting.specs.Nesting.{Nested}
 use Rattle.instructions.proofs.PastRegisters.{past-if}
 use Rattle.wave.specs.declared.state.State.{State}
 use Rattle.wave.specs.Layout.{opened}

@@ -7,7 +7,7 @@ use mathlib.Core.List.{List}
 use lib.ListN.{length}
 use Rattle.refusals.specs.declared.Refusal.{Refusal}
 use Rattle.refusals.specs.Table.{Rule, broken}
-use Rattle.blocks.specs.Nesting.{Nested, Broken}
+use Rattle.nesting.specs.Nesting.{Nested, Broken}
 use Rattle.wave.specs.declared.state.State.{State}
 use Rattle.fits.specs.Opens.{StateFits}
 use Rattle.stepping.specs.declared.settings.Settings.{Settings}
