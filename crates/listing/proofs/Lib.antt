@@ -1,4 +1,6 @@
 pub mod Places
 pub mod Putting
+pub mod Kinding
 pub mod Lines
+pub mod Texts
 pub mod OneAnswer

@@ -1,6 +1,6 @@
 -- Numbers put as text: the digits and behind them the end, and the place behind is near.
 use mathlib.Core.Path.{_≡_, _∙_}
-use Prim.Native.Nat.{ℕ, _+_, _≤_, _<_}
+use Prim.Native.Nat.{ℕ, _+_, _*_, _≤_, _<_}
 use mathlib.Core.List.{List, [], _∷_, _++_}
 use native.Mathlib.Omega.{arith}
 use lib.ListN.{length, length-append}
@@ -8,6 +8,7 @@ use Rattle.numbers.specs.Placed.{Puts}
 use Rattle.numbers.proofs.Placing.{puts-join, puts-same}
 use Rattle.io.specs.Digits.{digits, Fewest}
 use Rattle.listing.specs.Decimal.{field}
+use Rattle.listing.specs.Rooms.{fieldBytes}
 use Rattle.listing.specs.Text.{space}
 use Rattle.listing.proofs.Places.{decimal-is, field-long}
 
@@ -22,12 +23,12 @@ field-puts {n = n} {k = k} h l e a b = puts-join (puts-same (e ∙ decimal-is n 
 pub puts-near : {o o1 A : List ℕ} {at r : ℕ} (n : ℕ) → length A ≤ n → Puts o at A r o1 → r ≤ at + n
 puts-near n h a = let p = a .place in omega arith
 
-pub field-near : {o o1 : List ℕ} {at r : ℕ} (n end : ℕ) → Puts o at (field n end) r o1 → r ≤ at + 21
-field-near n end = puts-near 21 (field-long n end)
+pub field-near : {o o1 : List ℕ} {at r : ℕ} (n end : ℕ) → Puts o at (field n end) r o1 → r ≤ at + fieldBytes
+field-near n end = puts-near fieldBytes (field-long n end)
 
-pub two-near : {o o1 : List ℕ} {at r : ℕ} (m n : ℕ) → Puts o at (field m space ++ field n space) r o1 → r ≤ at + 42
+pub two-near : {o o1 : List ℕ} {at r : ℕ} (m n : ℕ) → Puts o at (field m space ++ field n space) r o1 → r ≤ at + fieldBytes * 2
 two-near m n a =
     let l = length-append (field m space) (field n space) in
     let b = field-long m space in
     let c = field-long n space in
-    puts-near 42 (omega arith) a
+    puts-near (fieldBytes * 2) (omega arith) a

@@ -1,9 +1,10 @@
 // Text and numbers, put into a buffer as far as they fit. Each function answers the place behind what it put.
-ghost use Prim.Native.Nat.{_+_, _≤_};
+ghost use Prim.Native.Nat.{_+_, _*_, _≤_};
 ghost use mathlib.Core.List.{_++_};
 ghost use lib.ListN.{length};
 ghost use Rattle.numbers.specs.Placed.{Puts};
 ghost use Rattle.listing.specs.Decimal.{field};
+ghost use Rattle.listing.specs.Rooms.{fieldBytes};
 ghost use Rattle.listing.specs.Text.{space, textRoom};
 
 // Puts text at `at`.
@@ -17,7 +18,7 @@ pub(crate) fn put_text(out: &mut [u8], at: usize, text: &[u8]) -> usize
 
 // Puts a number in decimal digits, and the character that ends it.
 pub(crate) fn put_field(out: &mut [u8], at: usize, n: u64, end: u8) -> usize
-    requires { ⌜ at + 21 ≤ textRoom ⌝ }
+    requires { ⌜ at + fieldBytes ≤ textRoom ⌝ }
     ensures { λ r. ⌜ Puts (now (out .entry)) at (field n end) r (now (out .exit)) ⌝ }
 {
     let mut digits = [0u8; 20];
@@ -29,7 +30,7 @@ pub(crate) fn put_field(out: &mut [u8], at: usize, n: u64, end: u8) -> usize
 
 // Puts two numbers, a space behind each.
 pub(crate) fn put_two(out: &mut [u8], at: usize, m: u64, n: u64) -> usize
-    requires { ⌜ at + 42 ≤ textRoom ⌝ }
+    requires { ⌜ at + fieldBytes * 2 ≤ textRoom ⌝ }
     ensures { λ r. ⌜ Puts (now (out .entry)) at (field m space ++ field n space) r (now (out .exit)) ⌝ }
 {
     let q = put_field(out, at, m, b' ');

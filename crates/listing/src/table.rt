@@ -20,26 +20,27 @@ ghost use Rattle.body.specs.Layout.{isBody};
 ghost use Rattle.dayfile.specs.Day.{page};
 ghost use Rattle.dayfile.specs.Read.{bodiesOf, refusalOf, firstsOf};
 ghost use Rattle.numbers.specs.Placed.{Puts};
+ghost use Rattle.listing.specs.Rooms.{kindsBytes, lineBytes, totalBytes};
 ghost use Rattle.listing.specs.Text.{textRoom, kindsText, line, lines, distinct, totalLine, tableText};
 
 // Puts the kinds of a body's fault, a comma between two.
 fn put_kinds(out: &mut [u8], at: usize, body: &[u8]) -> usize
-    requires { ⌜ (isBody (now body) ≡ true) × (at + 42 ≤ textRoom) ⌝ }
+    requires { ⌜ (isBody (now body) ≡ true) × (at + kindsBytes ≤ textRoom) ⌝ }
     ensures { λ r. ⌜ Puts (now (out .entry)) at (kindsText (map (λ (f : Fault). f .kind) (partsAt (now (body .entry)) .faults))) r (now (out .exit)) ⌝ }
 {
-    let kinds = count(body);
-    let first = fault(body, 0);
-    if kinds == 1 {
-        return put_field(out, at, first.kind as u64, b' ');
+    let last = (count(body) - 1) as usize;
+    let mut q = at;
+    let mut k: usize = 0;
+    while k < last {
+        q = put_field(out, q, fault(body, k).kind as u64, b',');
+        k += 1;
     }
-    let second = fault(body, 1);
-    let q = put_field(out, at, first.kind as u64, b',');
-    put_field(out, q, second.kind as u64, b' ')
+    put_field(out, q, fault(body, last).kind as u64, b' ')
 }
 
 // Puts the line of record i, whose body is given.
 fn put_line(out: &mut [u8], at: usize, i: usize, first: u32, body: &[u8]) -> usize
-    requires { ⌜ (isBody (now body) ≡ true) × (at + 147 ≤ textRoom) ⌝ }
+    requires { ⌜ (isBody (now body) ≡ true) × (at + lineBytes ≤ textRoom) ⌝ }
     ensures { λ r. ⌜ Puts (now (out .entry)) at (line i first (partsAt (now (body .entry)))) r (now (out .exit)) ⌝ }
 {
     let q1 = put_two(out, at, i as u64, first as u64);
@@ -50,7 +51,7 @@ fn put_line(out: &mut [u8], at: usize, i: usize, first: u32, body: &[u8]) -> usi
 
 // Puts the lines of an accepted file's records.
 fn put_lines(out: &mut [u8], at: usize, file: &[u8], firsts: &[u32]) -> usize
-    requires { ⌜ (refusalOf page (now file) ≡ 0) × ((now firsts ≡ firstsOf (bodiesOf page (now file))) × (at + 147 * length (now firsts) ≤ textRoom)) ⌝ }
+    requires { ⌜ (refusalOf page (now file) ≡ 0) × ((now firsts ≡ firstsOf (bodiesOf page (now file))) × (at + lineBytes * length (now firsts) ≤ textRoom)) ⌝ }
     ensures { λ r. ⌜ Puts (now (out .entry)) at (lines 1 (now (firsts .entry)) (bodiesOf page (now (file .entry)))) r (now (out .exit)) ⌝ }
 {
     let mut q = at;
@@ -82,7 +83,7 @@ fn count_distinct(firsts: &[u32]) -> usize
 
 // Puts the last line: the count of the records, and of those that are the first with their bytes.
 fn put_total(out: &mut [u8], at: usize, total: u64, first_ones: u64) -> usize
-    requires { ⌜ at + 57 ≤ textRoom ⌝ }
+    requires { ⌜ at + totalBytes ≤ textRoom ⌝ }
     ensures { λ r. ⌜ Puts (now (out .entry)) at (totalLine total «first_ones») r (now (out .exit)) ⌝ }
 {
     let q1 = put_text(out, at, b"total ");

@@ -2,7 +2,7 @@
 use mathlib.Core.Path.{refl, sym}
 use lib.Seq.{length-take-le}
 use Rattle.numbers.proofs.Placing.{puts-same}
-use Rattle.listing.proofs.Lines.{text-long, text-table, text-refused, Counted, firsts-counted, firsts-not}
+use Rattle.listing.proofs.Texts.{text-long, text-table, text-refused, Counted, firsts-counted, firsts-not}
 use borrow.Author.Needs.{needs}
 use Rattle.listing.proofs.list.Statement.{statement}
 use Rattle.listing.proofs.list.Tie as tie

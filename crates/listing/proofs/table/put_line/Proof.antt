@@ -1,8 +1,10 @@
 -- The pieces, put one behind another, are the line.
 use Prim.Native.Nat.{_+_, _≤_}
 use native.Mathlib.Omega.{arith}
+use Rattle.listing.specs.Rooms.{kindsBytes}
 use Rattle.listing.proofs.Putting.{two-near}
-use Rattle.listing.proofs.Lines.{line-puts, kinds-near}
+use Rattle.listing.proofs.Kinding.{kinds-near}
+use Rattle.listing.proofs.Lines.{line-puts}
 use borrow.Author.Needs.{needs}
 use Rattle.listing.proofs.table.put_line.Statement.{statement}
 use Rattle.listing.proofs.table.put_line.Tie as tie
@@ -14,7 +16,7 @@ put-kinds-requires : tie.Need-put-kinds-requires
 put-kinds-requires c κs = (search needs, omega (arith, two-near))
 
 -- the kinds are no longer than two fields
-kinds-end : (z : tie.After-put-kinds) → z .put-kinds .result ≤ z .before .before .before .before .put-two2 .result + 42
+kinds-end : (z : tie.After-put-kinds) → z .put-kinds .result ≤ z .before .before .before .before .put-two2 .result + kindsBytes
 kinds-end z =
     let two = z .before .before .before .before in
     let body = two .before .before .before .before .before .before .before .before .before .before .pre .0 in

@@ -1,6 +1,5 @@
 -- The invariant: the lines that are left, put where the loop stands, give all.
 use borrow.Author.Needs.{needs}
-use mathlib.Core.Path.{refl}
 use Prim.Native.Nat.{_-_, _≤_}
 use native.Mathlib.Omega.{arith}
 use lib.ListN.{length}
@@ -32,7 +31,7 @@ cut z =
     listed-cut _ _ (start .pre .0) (start .pre .1 .0) (z .before .before .loop-test .taken) (z .before .record-place .ensures) (z .record-length .ensures)
 
 loop-holds : tie.Need-loop-holds Inv-loop μ-loop
-loop-holds c = lining-start _ _ _ _
+loop-holds c = lining-start
 
 cast-row : tie.Need-cast-row Inv-loop μ-loop
 cast-row c = omega (arith, few (c .before .before .before .before .before))
@@ -51,10 +50,10 @@ loop-again c =
     let z = c .before .before .before .before .before .before in
     let g = z .before .before .before .loop .inv in
     let t = z .before .before .loop-test .taken in
-    lining-turn g t (cut z .few) (cut z .whole) refl (cut z .same) (c .before .before .put-line .ensures)
+    lining-turn g t (cut z .few) (cut z .whole) (cut z .same) (c .before .before .put-line .ensures)
 
 same-length : tie.Need-same-length Inv-loop μ-loop
-same-length c = c .before .loop .inv .long
+same-length c = c .before .loop .inv .left .long
 
 returns : tie.Need-returns Inv-loop μ-loop
 returns c = lining-end (c .before .loop .inv) (c .loop-test .left)

@@ -1,6 +1,7 @@
 -- Head, lines and total, put one behind another, are the table.
 use native.Mathlib.Omega.{arith}
-use Rattle.listing.proofs.Lines.{listed-few, listed-near, table-puts}
+use Rattle.listing.proofs.Lines.{listed-few, listed-near}
+use Rattle.listing.proofs.Texts.{table-puts}
 use borrow.Author.Needs.{needs}
 use Rattle.listing.proofs.table.put_table.Statement.{statement}
 use Rattle.listing.proofs.table.put_table.Tie as tie

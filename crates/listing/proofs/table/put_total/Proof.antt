@@ -1,7 +1,7 @@
 -- The pieces, put one behind another, are the last line.
 use native.Mathlib.Omega.{arith}
 use Rattle.listing.proofs.Putting.{field-near}
-use Rattle.listing.proofs.Lines.{total-puts}
+use Rattle.listing.proofs.Texts.{total-puts}
 use borrow.Author.Needs.{needs}
 use Rattle.listing.proofs.table.put_total.Statement.{statement}
 use Rattle.listing.proofs.table.put_total.Tie as tie
