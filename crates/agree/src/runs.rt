@@ -9,6 +9,7 @@ use crate::format::give_words;
 use crate::format::mark;
 use crate::format::number;
 use crate::format::take_words;
+use crate::states::KEY_STATE;
 use crate::states::give_outcome;
 use crate::states::give_state;
 use crate::states::outcome_of;
@@ -24,10 +25,8 @@ use std::num::wrapping_add_usize;
 use stepping::answers::Replayed;
 use stepping::settings::Settings;
 
-// Where the words of a run's case begin, behind eleven numbers, and the state of a key's case, behind ten.
+// Where the words of a run's case begin, behind eleven numbers.
 const RUN_WORDS: usize = 44;
-
-const KEY_STATE: usize = 40;
 
 // The most words that a case has of code and of registers, each one more than a run takes, and of each memory.
 const MOST_CODE: usize = MOST_WORDS + 1;

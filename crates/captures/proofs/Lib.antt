@@ -1,3 +1,4 @@
+pub mod Parts
 pub mod Tested
 pub mod Laid
 pub mod Accepted

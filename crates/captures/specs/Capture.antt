@@ -2,10 +2,12 @@
 use Prim.Native.Nat.{ℕ, _+_, _*_}
 use mathlib.Core.Path.{_≡_}
 use mathlib.Core.Bool.{Bool, true, _&&_, _||_}
-use mathlib.Core.List.{List, [], _∷_, _++_}
+use mathlib.Core.List.{List, [], _∷_, _++_, map, flatten}
 use lib.Dec.{ltb, eqb}
 use lib.ListN.{length, getD}
+use Rattle.ground.specs.Tests.{allOf}
 use Rattle.numbers.specs.Numbers.{bound, bytesOfAll, Small}
+use Rattle.packing.specs.Words.{depthWord, stateSize}
 use Rattle.captures.specs.declared.answer.Head.{Head}
 use Rattle.captures.specs.declared.answer.Counts.{Counts}
 
@@ -19,116 +21,74 @@ mark = 0x50414357
 abbrev pub edition : ℕ
 edition = 1
 
--- where the header's numbers stand, four bytes each: mark, edition, kernel number and settings, the counts of words of each part, and a
+-- how many settings there are, and how many parts
+abbrev pub settingCount : ℕ
+settingCount = 5
+
+abbrev pub partCount : ℕ
+partCount = 5
+
+-- which part is the state, counted from 0
+abbrev pub statePart : ℕ
+statePart = 4
+
+-- where the header's numbers stand behind the mark, four bytes each: the edition, the settings, the counts of words of each part, and a
 -- sixth count
-abbrev pub markPlace : ℕ
-markPlace = 0
-
 abbrev pub editionPlace : ℕ
-editionPlace = markPlace + 4
+editionPlace = 4
 
-abbrev pub kernelPlace : ℕ
-kernelPlace = editionPlace + 4
+abbrev pub settingsPlace : ℕ
+settingsPlace = editionPlace + 4
 
-abbrev pub widthPlace : ℕ
-widthPlace = kernelPlace + 4
+abbrev pub countsPlace : ℕ
+countsPlace = settingsPlace + 4 * settingCount
 
-abbrev pub registersPlace : ℕ
-registersPlace = widthPlace + 4
-
-abbrev pub lanesPlace : ℕ
-lanesPlace = registersPlace + 4
-
-abbrev pub budgetPlace : ℕ
-budgetPlace = lanesPlace + 4
-
-abbrev pub codeCount : ℕ
-codeCount = budgetPlace + 4
-
-abbrev pub registersCount : ℕ
-registersCount = codeCount + 4
-
-abbrev pub deviceCount : ℕ
-deviceCount = registersCount + 4
-
-abbrev pub localCount : ℕ
-localCount = deviceCount + 4
-
-abbrev pub stateCount : ℕ
-stateCount = localCount + 4
-
-abbrev pub sixthCount : ℕ
-sixthCount = stateCount + 4
+abbrev pub sixthPlace : ℕ
+sixthPlace = countsPlace + 4 * partCount
 
 -- the bytes of the header
 abbrev pub headerBytes : ℕ
-headerBytes = sixthCount + 4
-
--- a state's words before those of its blocks, and the words of each block
-abbrev pub hotWords : ℕ
-hotWords = 7
-
-abbrev pub blockWords : ℕ
-blockWords = 6
-
--- which of a state's words is its depth, counted from 0
-abbrev pub depthWord : ℕ
-depthWord = 6
-
--- the words of a state with this many open blocks
-abbrev pub stateSize : ℕ → ℕ
-stateSize depth = hotWords + blockWords * depth
+headerBytes = sixthPlace + 4
 
 -- ---- a capture and its file
 
--- the words of code, registers, device memory, local memory and state
-pub record Parts : Type 0 where
-  pub code : List ℕ
-  pub registers : List ℕ
-  pub device : List ℕ
-  pub local : List ℕ
-  pub state : List ℕ
-
-abbrev pub inParts : List ℕ → List ℕ → List ℕ → List ℕ → List ℕ → Parts
-inParts code registers device local state = record { code = code; registers = registers; device = device; local = local; state = state }
+-- the settings of the run, and the words of each part
+pub record Capture : Type 0 where
+  pub settings : List ℕ
+  pub parts : List (List ℕ)
 
 -- how many words there are of each part
-unfoldable pub countsOf : Parts → Counts
-countsOf p =
-    record {
-      code = length (p .code);
-      registers = length (p .registers);
-      device = length (p .device);
-      local = length (p .local);
-      state = length (p .state);
-    }
+abbrev pub countsOf : List (List ℕ) → List ℕ
+countsOf parts = map length parts
 
--- kernel number and settings, and the words of each part
-pub record Capture : Type 0 where
-  pub head : Head
-  pub parts : Parts
-
--- the capture of these parts
-abbrev pub captured : Head → List ℕ → List ℕ → List ℕ → List ℕ → List ℕ → Capture
-captured head code registers device local state = record { head = head; parts = inParts code registers device local state }
-
--- kernel number and settings
-abbrev pub headOf : Capture → List ℕ
-headOf c = c .head .kernel ∷ c .head .width ∷ c .head .registers ∷ c .head .lanes ∷ c .head .budget ∷ []
-
--- the header's numbers; the sixth count is 0
-unfoldable pub headerOf : Capture → List ℕ
-headerOf c =
-    mark ∷ edition ∷ (headOf c
-    ++ (length (c .parts .code) ∷ length (c .parts .registers) ∷ length (c .parts .device) ∷ length (c .parts .local) ∷ length (c .parts .state) ∷ 0 ∷ []))
-
--- the words of each part, in that order
-unfoldable pub joined : Parts → List ℕ
-joined p = p .code ++ (p .registers ++ (p .device ++ (p .local ++ p .state)))
+-- the numbers of a capture's file: mark, edition, settings, counts, a sixth count of 0, and the words of the parts, one part behind another
+unfoldable pub numbersOf : Capture → List ℕ
+numbersOf c = mark ∷ edition ∷ (c .settings ++ (countsOf (c .parts) ++ (0 ∷ flatten (c .parts))))
 
 -- the file of a capture
 unfoldable pub captureOf : Capture → List ℕ
-captureOf c = bytesOfAll (headerOf c ++ joined (c .parts))
+captureOf c = bytesOfAll (numbersOf c)
+
+-- ---- by name
+
+-- the settings by name, and back
+unfoldable pub headIn : List ℕ → Head
+headIn s = record { kernel = getD s 0 0; width = getD s 1 0; registers = getD s 2 0; lanes = getD s 3 0; budget = getD s 4 0 }
+
+abbrev pub settingsOf : Head → List ℕ
+settingsOf h = h .kernel ∷ h .width ∷ h .registers ∷ h .lanes ∷ h .budget ∷ []
+
+-- the counts by name
+unfoldable pub countsIn : List ℕ → Counts
+countsIn n = record { code = getD n 0 0; registers = getD n 1 0; device = getD n 2 0; local = getD n 3 0; state = getD n statePart 0 }
+
+-- the parts
+abbrev pub inParts : List ℕ → List ℕ → List ℕ → List ℕ → List ℕ → List (List ℕ)
+inParts code registers device local state = code ∷ registers ∷ device ∷ local ∷ state ∷ []
+
+-- the capture of these settings and parts
+abbrev pub captured : Head → List (List ℕ) → Capture
+captured head parts = record { settings = settingsOf head; parts = parts }
 
 -- ---- which captures have a file
 
@@ -136,17 +96,17 @@ captureOf c = bytesOfAll (headerOf c ++ joined (c .parts))
 unfoldable pub stateFits : List ℕ → Bool
 stateFits s = eqb (length s) 0 || eqb (length s) (stateSize (getD s depthWord 0))
 
--- each count is a number of four bytes, and the state's words are a state's
-unfoldable pub fits : Capture → Bool
-fits c =
-    ltb (length (c .parts .code)) bound
-    && (ltb (length (c .parts .registers)) bound
-    && (ltb (length (c .parts .device)) bound
-    && (ltb (length (c .parts .local)) bound
-    && (ltb (length (c .parts .state)) bound
-    && stateFits (c .parts .state)))))
+-- the state's words are a state's
+abbrev pub shapely : List (List ℕ) → Bool
+shapely parts = stateFits (getD parts statePart [])
 
--- a capture that a file is of: all its numbers have four bytes, and its state's words are a state's
+-- each count is a number of four bytes, and the state's words are a state's
+unfoldable pub fits : List (List ℕ) → Bool
+fits parts = allOf (λ n. ltb n bound) (countsOf parts) && shapely parts
+
+-- a capture that a file is of: it has every setting and every part, all its numbers have four bytes, and its state's words are a state's
 pub record Filed (c : Capture) : Type 0 where
-  pub small : Small (headerOf c ++ joined (c .parts))
-  pub shape : stateFits (c .parts .state) ≡ true
+  pub settings : length (c .settings) ≡ settingCount
+  pub parts : length (c .parts) ≡ partCount
+  pub small : Small (numbersOf c)
+  pub shape : shapely (c .parts) ≡ true

@@ -1,72 +1,53 @@
 -- Reading a capture file into lent buffers: the tests in their order, and what the file holds.
 use Prim.Native.Nat.{ℕ, _+_, _*_, _-_, _/_, _≤_, min}
 use mathlib.Core.Bool.{Bool, cond, _||_}
-use mathlib.Core.List.{List}
+use mathlib.Core.List.{List, [], _∷_, zipWith}
 use lib.Dec.{ltb, leb, eqb}
-use lib.ListN.{length}
+use lib.ListN.{length, getD, take, drop}
 use Rattle.numbers.specs.Numbers.{numberAt, numbersAt}
 use Rattle.numbers.specs.Placed.{placed}
-use Rattle.captures.specs.declared.answer.Head.{Head}
-use Rattle.captures.specs.declared.answer.Counts.{Counts}
+use Rattle.wave.specs.Layout.{blockNumbers}
+use Rattle.packing.specs.Words.{hotWords, depthWord, stateSize}
 use Rattle.captures.specs.declared.answer.Rule.{Rule}
 use Rattle.captures.specs.declared.answer.ReadAnswer.{ReadAnswer}
 use Rattle.captures.specs.declared.answer.ReadAnswer.the-variants.{Read, Unreadable}
 use Rattle.captures.specs.declared.testing.Verdict.{Verdict}
 use Rattle.captures.specs.declared.testing.Verdict.the-variants.{Fine, Broken}
-use Rattle.captures.specs.declared.testing.Places.{Places}
-use Rattle.captures.specs.Capture.{mark, edition, markPlace, editionPlace, kernelPlace, widthPlace, registersPlace, lanesPlace, budgetPlace}
-use Rattle.captures.specs.Capture.{codeCount, registersCount, deviceCount, localCount, stateCount, sixthCount, headerBytes}
-use Rattle.captures.specs.Capture.{hotWords, blockWords, depthWord, stateSize, Parts, inParts, countsOf, Capture}
+use Rattle.captures.specs.Capture.{mark, edition, settingCount, partCount, statePart}
+use Rattle.captures.specs.Capture.{editionPlace, settingsPlace, countsPlace, sixthPlace, headerBytes}
+use Rattle.captures.specs.Capture.{Capture, countsOf, headIn, countsIn}
 
 -- ---- what a file holds
 
--- kernel number and settings
-unfoldable pub headAt : List ℕ → Head
-headAt f =
-    record {
-      kernel = numberAt f kernelPlace;
-      width = numberAt f widthPlace;
-      registers = numberAt f registersPlace;
-      lanes = numberAt f lanesPlace;
-      budget = numberAt f budgetPlace;
-    }
+-- the settings
+unfoldable pub settingsAt : List ℕ → List ℕ
+settingsAt f = numbersAt f settingsPlace settingCount
 
 -- the counts of words
-unfoldable pub countsAt : List ℕ → Counts
-countsAt f =
-    record {
-      code = numberAt f codeCount;
-      registers = numberAt f registersCount;
-      device = numberAt f deviceCount;
-      local = numberAt f localCount;
-      state = numberAt f stateCount;
-    }
+unfoldable pub countsAt : List ℕ → List ℕ
+countsAt f = numbersAt f countsPlace partCount
 
--- where the words of the parts behind the code stand, where the state's depth does, and where the file ends
-unfoldable pub placesOf : Counts → Places
-placesOf n =
-    let registers = headerBytes + 4 * n .code in
-    let device = registers + 4 * n .registers in
-    let local = device + 4 * n .device in
-    let state = local + 4 * n .local in
-    record { registers = registers; device = device; local = local; state = state; depth = state + 4 * depthWord; end = state + 4 * n .state }
+-- the words of parts of these counts, one part behind another from `at` on
+unfoldable pub partsFrom : List ℕ → ℕ → List ℕ → List (List ℕ)
+partsFrom f at [] = []
+partsFrom f at (n ∷ ns) = numbersAt f at n ∷ partsFrom f (at + 4 * n) ns
 
--- the words of each part in a file
-unfoldable pub partsIn : List ℕ → Parts
-partsIn f =
-    let n = countsAt f in
-    let at = placesOf n in
-    record {
-      code = numbersAt f headerBytes (n .code);
-      registers = numbersAt f (at .registers) (n .registers);
-      device = numbersAt f (at .device) (n .device);
-      local = numbersAt f (at .local) (n .local);
-      state = numbersAt f (at .state) (n .state);
-    }
+-- where they end
+unfoldable pub endFrom : ℕ → List ℕ → ℕ
+endFrom at [] = at
+endFrom at (n ∷ ns) = endFrom (at + 4 * n) ns
+
+-- where part k begins, with these counts; behind the last part the file ends
+unfoldable pub placeOf : List ℕ → ℕ → ℕ
+placeOf counts k = endFrom headerBytes (take k counts)
+
+-- the words of each part
+unfoldable pub partsIn : List ℕ → List (List ℕ)
+partsIn f = partsFrom f headerBytes (countsAt f)
 
 -- the capture that a file is of
 abbrev pub captureIn : List ℕ → Capture
-captureIn f = record { head = headAt f; parts = partsIn f }
+captureIn f = record { settings = settingsAt f; parts = partsIn f }
 
 -- ---- the tests
 
@@ -75,73 +56,65 @@ unfoldable pub next : Verdict → Bool → Rule → ℕ → Verdict
 next Fine holds rule place = cond holds Fine (Broken rule place)
 next (Broken r p) holds rule place = Broken r p
 
--- mark and edition, as soon as they are there, then the thirteen numbers
+-- mark and edition, as soon as they are there, then the whole header
 unfoldable pub testHead : List ℕ → Verdict
 testHead f =
-    let a = next Fine (ltb (length f) editionPlace || eqb (numberAt f markPlace) mark) Rule.Mark markPlace in
-    let b = next a (ltb (length f) kernelPlace || eqb (numberAt f editionPlace) edition) Rule.Edition editionPlace in
+    let a = next Fine (ltb (length f) editionPlace || eqb (numberAt f 0) mark) Rule.Mark 0 in
+    let b = next a (ltb (length f) settingsPlace || eqb (numberAt f editionPlace) edition) Rule.Edition editionPlace in
     next b (leb headerBytes (length f)) Rule.Header (4 * (length f / 4))
 
--- there is room for each count
-unfoldable pub testRooms : Verdict → Counts → Counts → Verdict
-testRooms v n rooms =
-    let a = next v (leb (n .code) (rooms .code)) Rule.Room codeCount in
-    let b = next a (leb (n .registers) (rooms .registers)) Rule.Room registersCount in
-    let c = next b (leb (n .device) (rooms .device)) Rule.Room deviceCount in
-    let d = next c (leb (n .local) (rooms .local)) Rule.Room localCount in
-    next d (leb (n .state) (rooms .state)) Rule.Room stateCount
+-- there is room for each count; the counts stand one behind another from `place` on
+unfoldable pub testRooms : Verdict → ℕ → List ℕ → List ℕ → Verdict
+testRooms v place [] rooms = v
+testRooms v place (n ∷ ns) rooms = testRooms (next v (leb n (getD rooms 0 0)) Rule.Room place) (place + 4) ns (drop 1 rooms)
 
 -- the depth that a state's count gives
 unfoldable pub depthOf : ℕ → ℕ
-depthOf n = (n - hotWords) / blockWords
+depthOf n = (n - hotWords) / blockNumbers
+
+-- where a file's state has its depth, and where the file ends
+abbrev pub depthPlace : List ℕ → ℕ
+depthPlace f = placeOf (countsAt f) statePart + 4 * depthWord
+
+abbrev pub endPlace : List ℕ → ℕ
+endPlace f = placeOf (countsAt f) partCount
 
 -- the state's count is 0 or a state's, the sixth is 0, the file ends behind the words, and the state's depth is its count's
 unfoldable pub testState : Verdict → List ℕ → Verdict
 testState v f =
-    let n = countsAt f .state in
-    let at = placesOf (countsAt f) in
-    let a = next v (eqb n 0 || eqb n (stateSize (depthOf n))) Rule.StateCount stateCount in
-    let b = next a (eqb (numberAt f sixthCount) 0) Rule.SixthCount sixthCount in
-    let c = next b (eqb (length f) (at .end)) Rule.Length (min (length f) (at .end)) in
-    next c (eqb n 0 || eqb (numberAt f (at .depth)) (depthOf n)) Rule.Depth (at .depth)
+    let n = getD (countsAt f) statePart 0 in
+    let a = next v (eqb n 0 || eqb n (stateSize (depthOf n))) Rule.StateCount (countsPlace + 4 * statePart) in
+    let b = next a (eqb (numberAt f sixthPlace) 0) Rule.SixthCount sixthPlace in
+    let c = next b (eqb (length f) (endPlace f)) Rule.Length (min (length f) (endPlace f)) in
+    next c (eqb n 0 || eqb (numberAt f (depthPlace f)) (depthOf n)) Rule.Depth (depthPlace f)
 
 -- all tests, in this order: the head's, the rooms', the state's
-unfoldable pub verdictOf : List ℕ → Counts → Verdict
-verdictOf f rooms = testState (testRooms (testHead f) (countsAt f) rooms) f
+unfoldable pub verdictOf : List ℕ → List ℕ → Verdict
+verdictOf f rooms = testState (testRooms (testHead f) countsPlace (countsAt f) rooms) f
 
 -- ---- the answer
 
 -- there is room for each count
-pub record Within (n rooms : Counts) : Type 0 where
-  pub code : n .code ≤ rooms .code
-  pub registers : n .registers ≤ rooms .registers
-  pub device : n .device ≤ rooms .device
-  pub local : n .local ≤ rooms .local
-  pub state : n .state ≤ rooms .state
+abbrev pub Within : List ℕ → List ℕ → Type 0
+Within counts rooms = (k : ℕ) → getD counts k 0 ≤ getD rooms k 0
 
--- words at the start of each lent buffer, the rest of each as it was
-unfoldable pub filled : Parts → Parts → Parts
-filled p l =
-    inParts
-    (placed (l .code) 0 (p .code))
-    (placed (l .registers) 0 (p .registers))
-    (placed (l .device) 0 (p .device))
-    (placed (l .local) 0 (p .local))
-    (placed (l .state) 0 (p .state))
+-- the words of each part at the start of its lent buffer, the rest of each as it was
+unfoldable pub filled : List (List ℕ) → List (List ℕ) → List (List ℕ)
+filled parts lent = zipWith (λ (p l : List ℕ). placed l 0 p) parts lent
 
 -- an answer, and what the lent buffers hold after
 pub record Reading : Type 0 where
   pub answer : ReadAnswer
-  pub after : Parts
+  pub after : List (List ℕ)
 
-abbrev pub reading : ReadAnswer → Parts → Reading
+abbrev pub reading : ReadAnswer → List (List ℕ) → Reading
 reading r l = record { answer = r; after = l }
 
 -- by the verdict: what the file holds, or the broken rule, which changes nothing
-unfoldable pub judged : Verdict → List ℕ → Parts → Reading
-judged Fine f l = reading (Read (headAt f) (countsAt f)) (filled (partsIn f) l)
+unfoldable pub judged : Verdict → List ℕ → List (List ℕ) → Reading
+judged Fine f l = reading (Read (headIn (settingsAt f)) (countsIn (countsAt f))) (filled (partsIn f) l)
 judged (Broken rule place) f l = reading (Unreadable rule place) l
 
 -- what reading answers and leaves
-unfoldable pub readOf : List ℕ → Parts → Reading
+unfoldable pub readOf : List ℕ → List (List ℕ) → Reading
 readOf f l = judged (verdictOf f (countsOf l)) f l

@@ -21,6 +21,6 @@ wrote r file = record { answer = r; file = file }
 -- 14 where no file has these parts, then 13 where it doesn't fit; else the file stands at the buffer's front
 unfoldable pub writeOf : Capture → List ℕ → Writing
 writeOf c out =
-    cond (fits c)
+    cond (fits (c .parts))
     (cond (leb (length (captureOf c)) (length out)) (wrote (Wrote (length (captureOf c))) (placed out 0 (captureOf c))) (wrote (Refused (broken Rule.short 0)) out))
     (wrote (Refused (broken Rule.not-of-layout 0)) out)

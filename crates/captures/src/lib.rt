@@ -16,41 +16,31 @@ const MARK: u32 = 0x5041_4357;
 
 const EDITION: u32 = 1;
 
-// Where the header's numbers stand, four bytes each: the mark, the edition, the kernel number and the settings, the counts of words of
-// each part, and a sixth count.
-const MARK_PLACE: usize = 0;
+// How many settings there are, and how many parts.
+const SETTINGS: usize = 5;
 
-const EDITION_PLACE: usize = MARK_PLACE + 4;
+const PARTS: usize = 5;
 
-const KERNEL_PLACE: usize = EDITION_PLACE + 4;
+// Which part each is.
+pub const CODE: usize = 0;
 
-const WIDTH_PLACE: usize = KERNEL_PLACE + 4;
+pub const REGISTERS: usize = 1;
 
-const REGISTERS_PLACE: usize = WIDTH_PLACE + 4;
+pub const DEVICE: usize = 2;
 
-const LANES_PLACE: usize = REGISTERS_PLACE + 4;
+pub const LOCAL: usize = 3;
 
-const BUDGET_PLACE: usize = LANES_PLACE + 4;
+const STATE: usize = 4;
 
-pub const CODE_COUNT: usize = BUDGET_PLACE + 4;
+// Where the header's numbers stand behind the mark, four bytes each: the edition, the settings, the counts of words of each part, and a
+// sixth count.
+const EDITION_PLACE: usize = 4;
 
-pub const REGISTERS_COUNT: usize = CODE_COUNT + 4;
+const SETTINGS_PLACE: usize = EDITION_PLACE + 4;
 
-pub const DEVICE_COUNT: usize = REGISTERS_COUNT + 4;
+pub const COUNTS_PLACE: usize = SETTINGS_PLACE + 4 * SETTINGS;
 
-pub const LOCAL_COUNT: usize = DEVICE_COUNT + 4;
-
-pub const STATE_COUNT: usize = LOCAL_COUNT + 4;
-
-const SIXTH_COUNT: usize = STATE_COUNT + 4;
+const SIXTH_PLACE: usize = COUNTS_PLACE + 4 * PARTS;
 
 // The bytes of the header.
-pub const HEADER_BYTES: usize = SIXTH_COUNT + 4;
-
-// A state's words before those of its blocks, and the words of each block.
-const HOT_WORDS: usize = 7;
-
-const BLOCK_WORDS: usize = 6;
-
-// Which of a state's words is its depth, counted from 0.
-const DEPTH_WORD: usize = 6;
+pub const HEADER_BYTES: usize = SIXTH_PLACE + 4;

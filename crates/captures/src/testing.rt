@@ -1,30 +1,33 @@
 // Whether bytes are a capture file: what their header says, and the first broken rule.
-use crate::BLOCK_WORDS;
-use crate::BUDGET_PLACE;
-use crate::CODE_COUNT;
-use crate::DEPTH_WORD;
-use crate::DEVICE_COUNT;
+use crate::CODE;
+use crate::COUNTS_PLACE;
+use crate::DEVICE;
 use crate::EDITION;
 use crate::EDITION_PLACE;
 use crate::HEADER_BYTES;
-use crate::HOT_WORDS;
-use crate::KERNEL_PLACE;
-use crate::LANES_PLACE;
-use crate::LOCAL_COUNT;
+use crate::LOCAL;
 use crate::MARK;
-use crate::MARK_PLACE;
-use crate::REGISTERS_COUNT;
-use crate::REGISTERS_PLACE;
-use crate::SIXTH_COUNT;
-use crate::STATE_COUNT;
-use crate::WIDTH_PLACE;
+use crate::PARTS;
+use crate::REGISTERS;
+use crate::SETTINGS;
+use crate::SETTINGS_PLACE;
+use crate::SIXTH_PLACE;
+use crate::STATE;
 use crate::answer::Counts;
 use crate::answer::Head;
 use crate::answer::Rule;
 use numbers::get;
+use numbers::get_words;
 use numbers::smaller;
+use packing::DEPTH_WORD;
+use packing::HOT_WORDS;
+use wave::state::BLOCK_NUMBERS;
 ghost use mathlib.Core.Path.{_≡_};
-ghost use Rattle.captures.specs.Read.{headAt, countsAt, placesOf, next as nextVerdict, depthOf, testHead, testRooms, testState, verdictOf};
+ghost use Prim.Native.Nat.{_+_, _*_, _≤_};
+ghost use Rattle.numbers.specs.Numbers.{bound};
+ghost use Rattle.captures.specs.Capture.{partCount, countsPlace, headerBytes, headIn, countsIn};
+ghost use Rattle.captures.specs.Read.{settingsAt, countsAt, placeOf, next as nextVerdict, depthOf};
+ghost use Rattle.captures.specs.Read.{testHead, testRooms, testState, verdictOf};
 
 // The first broken rule and its place, or none.
 pub(crate) enum Verdict {
@@ -32,60 +35,55 @@ pub(crate) enum Verdict {
     Broken { rule: Rule, place: usize },
 }
 
-// Where the words of the parts behind the code stand, where the state's depth does, and where the file ends.
-pub(crate) struct Places {
-    pub(crate) registers: usize,
-    pub(crate) device: usize,
-    pub(crate) local: usize,
-    pub(crate) state: usize,
-    pub(crate) depth: usize,
-    pub(crate) end: usize,
-}
-
 // Kernel number and settings.
 pub(crate) fn head_of(file: &[u8]) -> Head
-    ensures { λ r. ⌜ r ≡ headAt (now (file .entry)) ⌝ }
+    ensures { λ r. ⌜ r ≡ headIn (settingsAt (now (file .entry))) ⌝ }
 {
+    let mut s = [0u32; SETTINGS];
+    get_words(file, SETTINGS_PLACE, &mut s);
     Head {
-        kernel: get(file, KERNEL_PLACE),
-        width: get(file, WIDTH_PLACE),
-        registers: get(file, REGISTERS_PLACE),
-        lanes: get(file, LANES_PLACE),
-        budget: get(file, BUDGET_PLACE),
+        kernel: s[0],
+        width: s[1],
+        registers: s[2],
+        lanes: s[3],
+        budget: s[4],
     }
 }
 
 // The counts of words.
-pub(crate) fn counts_of(file: &[u8]) -> Counts
+pub(crate) fn counts_of(file: &[u8]) -> [u32; PARTS]
     ensures { λ r. ⌜ r ≡ countsAt (now (file .entry)) ⌝ }
 {
+    let mut n = [0u32; PARTS];
+    get_words(file, COUNTS_PLACE, &mut n);
+    n
+}
+
+// Counts by name.
+pub(crate) fn counted(n: [u32; PARTS]) -> Counts
+    ensures { λ r. ⌜ r ≡ countsIn n ⌝ }
+{
     Counts {
-        code: get(file, CODE_COUNT) as usize,
-        registers: get(file, REGISTERS_COUNT) as usize,
-        device: get(file, DEVICE_COUNT) as usize,
-        local: get(file, LOCAL_COUNT) as usize,
-        state: get(file, STATE_COUNT) as usize,
+        code: n[CODE] as usize,
+        registers: n[REGISTERS] as usize,
+        device: n[DEVICE] as usize,
+        local: n[LOCAL] as usize,
+        state: n[STATE] as usize,
     }
 }
 
-// Where the counts put each part.
-pub(crate) fn places_of(file: &[u8]) -> Places
-    ensures { λ r. ⌜ r ≡ placesOf (countsAt (now (file .entry))) ⌝ }
+// Where a part begins, with these counts; behind the last part the file ends. Counts of four bytes keep it small.
+pub(crate) fn place_of(n: [u32; PARTS], part: usize) -> usize
+    requires { ⌜ part ≤ partCount ⌝ }
+    ensures { λ r. ⌜ (r ≡ placeOf n part) × (r ≤ headerBytes + 4 * bound * partCount) ⌝ }
 {
-    let registers = HEADER_BYTES + 4 * (get(file, CODE_COUNT) as usize);
-    let device = registers + 4 * (get(file, REGISTERS_COUNT) as usize);
-    let local = device + 4 * (get(file, DEVICE_COUNT) as usize);
-    let state = local + 4 * (get(file, LOCAL_COUNT) as usize);
-    let depth = state + 4 * DEPTH_WORD;
-    let end = state + 4 * (get(file, STATE_COUNT) as usize);
-    Places {
-        registers,
-        device,
-        local,
-        state,
-        depth,
-        end,
+    let mut at = HEADER_BYTES;
+    let mut k: usize = 0;
+    while k < part {
+        at += 4 * (n[k] as usize);
+        k += 1;
     }
+    at
 }
 
 // The first broken rule, after this one is tested.
@@ -109,24 +107,24 @@ fn depth_of(count: usize) -> usize
     if count < HOT_WORDS {
         0
     } else {
-        (count - HOT_WORDS) / BLOCK_WORDS
+        (count - HOT_WORDS) / BLOCK_NUMBERS
     }
 }
 
-// Mark and edition, as soon as they are there, then the header's thirteen numbers.
+// Mark and edition, as soon as they are there, then the whole header.
 fn test_head(file: &[u8]) -> Verdict
     ensures { λ r. ⌜ r ≡ testHead (now (file .entry)) ⌝ }
 {
     let n = file.len();
     let mark = next(
         Verdict::Fine,
-        (n < EDITION_PLACE) | (get(file, MARK_PLACE) == MARK),
+        (n < EDITION_PLACE) | (get(file, 0) == MARK),
         Rule::Mark,
-        MARK_PLACE,
+        0,
     );
     let edition = next(
         mark,
-        (n < KERNEL_PLACE) | (get(file, EDITION_PLACE) == EDITION),
+        (n < SETTINGS_PLACE) | (get(file, EDITION_PLACE) == EDITION),
         Rule::Edition,
         EDITION_PLACE,
     );
@@ -134,61 +132,60 @@ fn test_head(file: &[u8]) -> Verdict
 }
 
 // Room for each count.
-fn test_rooms(first: Verdict, counts: Counts, rooms: Counts) -> Verdict
-    ensures { λ r. ⌜ r ≡ testRooms first counts rooms ⌝ }
+fn test_rooms(first: Verdict, n: [u32; PARTS], rooms: [usize; PARTS]) -> Verdict
+    ensures { λ r. ⌜ r ≡ testRooms first countsPlace n rooms ⌝ }
 {
-    let code = next(first, counts.code <= rooms.code, Rule::Room, CODE_COUNT);
-    let registers = next(
-        code,
-        counts.registers <= rooms.registers,
-        Rule::Room,
-        REGISTERS_COUNT,
-    );
-    let device = next(
-        registers,
-        counts.device <= rooms.device,
-        Rule::Room,
-        DEVICE_COUNT,
-    );
-    let local = next(device, counts.local <= rooms.local, Rule::Room, LOCAL_COUNT);
-    next(local, counts.state <= rooms.state, Rule::Room, STATE_COUNT)
+    let mut verdict = first;
+    let mut k: usize = 0;
+    while k < PARTS {
+        verdict = next(
+            verdict,
+            n[k] as usize <= rooms[k],
+            Rule::Room,
+            COUNTS_PLACE + 4 * k,
+        );
+        k += 1;
+    }
+    verdict
 }
 
 // The state's count, the sixth count, the file's end and the state's depth.
 fn test_state(first: Verdict, file: &[u8]) -> Verdict
     ensures { λ r. ⌜ r ≡ testState first (now (file .entry)) ⌝ }
 {
-    let count = get(file, STATE_COUNT) as usize;
+    let n = counts_of(file);
+    let count = n[STATE] as usize;
     let depth = depth_of(count);
-    let at = places_of(file);
+    let depth_at = place_of(n, STATE) + 4 * DEPTH_WORD;
+    let end_at = place_of(n, PARTS);
     let shape = next(
         first,
-        (count == 0) | (count == HOT_WORDS + BLOCK_WORDS * depth),
+        (count == 0) | (count == HOT_WORDS + BLOCK_NUMBERS * depth),
         Rule::StateCount,
-        STATE_COUNT,
+        COUNTS_PLACE + 4 * STATE,
     );
     let sixth = next(
         shape,
-        get(file, SIXTH_COUNT) == 0,
+        get(file, SIXTH_PLACE) == 0,
         Rule::SixthCount,
-        SIXTH_COUNT,
+        SIXTH_PLACE,
     );
     let end = next(
         sixth,
-        file.len() == at.end,
+        file.len() == end_at,
         Rule::Length,
-        smaller(file.len(), at.end),
+        smaller(file.len(), end_at),
     );
     next(
         end,
-        (count == 0) | (get(file, at.depth) as usize == depth),
+        (count == 0) | (get(file, depth_at) as usize == depth),
         Rule::Depth,
-        at.depth,
+        depth_at,
     )
 }
 
 // The first broken rule of a file, where there is this room for its words.
-pub(crate) fn verdict_of(file: &[u8], rooms: Counts) -> Verdict
+pub(crate) fn verdict_of(file: &[u8], rooms: [usize; PARTS]) -> Verdict
     ensures { λ r. ⌜ r ≡ verdictOf (now (file .entry)) rooms ⌝ }
 {
     let head = test_head(file);

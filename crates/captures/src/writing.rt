@@ -1,20 +1,25 @@
 // Writing a capture file.
-use crate::BLOCK_WORDS;
-use crate::DEPTH_WORD;
+use crate::CODE;
+use crate::DEVICE;
 use crate::EDITION;
-use crate::HEADER_BYTES;
-use crate::HOT_WORDS;
+use crate::LOCAL;
 use crate::MARK;
+use crate::PARTS;
+use crate::REGISTERS;
+use crate::STATE;
 use crate::answer::Head;
 use crate::answer::WriteAnswer;
+use crate::testing::place_of;
 use numbers::put_words;
+use packing::DEPTH_WORD;
+use packing::HOT_WORDS;
 use refusals::NOT_OF_LAYOUT;
 use refusals::Refusal;
 use refusals::SHORT;
+use wave::state::BLOCK_NUMBERS;
 ghost use mathlib.Core.Path.{_≡_};
-ghost use mathlib.Core.Bool.{true};
 ghost use Rattle.numbers.specs.Placed.{placed};
-ghost use Rattle.captures.specs.Capture.{captured, captureOf, stateFits, fits};
+ghost use Rattle.captures.specs.Capture.{countsOf, inParts, captured, captureOf, stateFits};
 ghost use Rattle.captures.specs.Write.{wrote, writeOf};
 
 // The bound of a number of four bytes.
@@ -27,12 +32,13 @@ fn state_fits(state: &[u32]) -> bool
     if state.len() < HOT_WORDS {
         return state.len() == 0;
     }
-    state.len() == HOT_WORDS + BLOCK_WORDS * (state[DEPTH_WORD] as usize)
+    state.len() == HOT_WORDS + BLOCK_NUMBERS * (state[DEPTH_WORD] as usize)
 }
 
-// Puts the file of these parts at the front of `file`, as far as it fits.
+// Puts the file of these parts, of which these are the counts, at the front of `file`, as far as it fits.
 fn give_parts(
     head: Head,
+    n: [u32; PARTS],
     code: &[u32],
     registers: &[u32],
     device: &[u32],
@@ -40,8 +46,11 @@ fn give_parts(
     state: &[u32],
     file: &mut [u8],
 )
-    requires { ⌜ fits (captured head (now code) (now registers) (now device) (now local) (now state)) ≡ true ⌝ }
-    ensures { λ _. ⌜ now (file .exit) ≡ placed (now (file .entry)) 0 (captureOf (captured head (now (code .entry)) (now (registers .entry)) (now (device .entry)) (now (local .entry)) (now (state .entry)))) ⌝ }
+    requires { ⌜ n ≡ countsOf (inParts (now code) (now registers) (now device) (now local) (now state)) ⌝ }
+    ensures { λ _. ⌜
+        now (file .exit)
+        ≡ placed (now (file .entry)) 0
+        (captureOf (captured head (inParts (now (code .entry)) (now (registers .entry)) (now (device .entry)) (now (local .entry)) (now (state .entry))))) ⌝ }
 {
     let header = [
         MARK,
@@ -51,23 +60,19 @@ fn give_parts(
         head.registers,
         head.lanes,
         head.budget,
-        code.len() as u32,
-        registers.len() as u32,
-        device.len() as u32,
-        local.len() as u32,
-        state.len() as u32,
+        n[CODE],
+        n[REGISTERS],
+        n[DEVICE],
+        n[LOCAL],
+        n[STATE],
         0,
     ];
-    let registers_at = HEADER_BYTES + 4 * code.len();
-    let device_at = registers_at + 4 * registers.len();
-    let local_at = device_at + 4 * device.len();
-    let state_at = local_at + 4 * local.len();
     put_words(file, 0, &header);
-    put_words(file, HEADER_BYTES, code);
-    put_words(file, registers_at, registers);
-    put_words(file, device_at, device);
-    put_words(file, local_at, local);
-    put_words(file, state_at, state);
+    put_words(file, place_of(n, CODE), code);
+    put_words(file, place_of(n, REGISTERS), registers);
+    put_words(file, place_of(n, DEVICE), device);
+    put_words(file, place_of(n, LOCAL), local);
+    put_words(file, place_of(n, STATE), state);
 }
 
 // Writes the capture file of these parts at the front of `file`, and answers its length; the rest of `file` stays as lent. Tests
@@ -81,7 +86,11 @@ pub fn write(
     state: &[u32],
     file: &mut [u8],
 ) -> WriteAnswer
-    ensures { λ r. ⌜ wrote r (now (file .exit)) ≡ writeOf (captured head (now (code .entry)) (now (registers .entry)) (now (device .entry)) (now (local .entry)) (now (state .entry))) (now (file .entry)) ⌝ }
+    ensures { λ r. ⌜
+        wrote r (now (file .exit))
+        ≡ writeOf
+        (captured head (inParts (now (code .entry)) (now (registers .entry)) (now (device .entry)) (now (local .entry)) (now (state .entry))))
+        (now (file .entry)) ⌝ }
 {
     let fits = (code.len() < BOUND)
         & (registers.len() < BOUND)
@@ -95,14 +104,20 @@ pub fn write(
             place: 0,
         });
     }
-    let words = code.len() + registers.len() + device.len() + local.len() + state.len();
-    let total = HEADER_BYTES + 4 * words;
+    let n = [
+        code.len() as u32,
+        registers.len() as u32,
+        device.len() as u32,
+        local.len() as u32,
+        state.len() as u32,
+    ];
+    let total = place_of(n, PARTS);
     if file.len() < total {
         return WriteAnswer::Refused(Refusal {
             number: SHORT,
             place: 0,
         });
     }
-    give_parts(head, code, registers, device, local, state, file);
+    give_parts(head, n, code, registers, device, local, state, file);
     WriteAnswer::Wrote(total)
 }

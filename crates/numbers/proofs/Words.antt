@@ -3,7 +3,7 @@ use mathlib.Core.Path.{_≡_, refl, sym, ap, ap₂, _∙_}
 use Prim.Native.Nat.{ℕ, zero, suc, _+_, _*_, _-_, _≤_, _<_, min}
 use mathlib.Core.List.{List, [], _∷_, _++_, flatMap}
 use native.Mathlib.Omega.{arith}
-use native.Mathlib.Nat.{add-zero}
+use native.Mathlib.Nat.{add-zero, zero-add}
 use native.Mathlib.Numerals.{add-one}
 use mathlib.Core.Logic.{dite}
 use native.Mathlib.Decide.{decLt}
@@ -13,7 +13,7 @@ use Rattle.numbers.specs.Numbers.{bytesOf, bytesOfAll, numberAt, numbers
 use Rattle.numbers.specs.Placed.{placed}
 use Rattle.numbers.proofs.Numerals.{number-drop, number-out, number-small, small-nil, small-cons}
 use Rattle.numbers.proofs.Numerals.{Stand, stand-nth, stand-rest, Holds, holds-none, holds-next}
-use Rattle.numbers.proofs.Placing.{placed-nil, placed-whole, placed-front}
+use Rattle.numbers.proofs.Placing.{placed-append, placed-out, length-placed, placed-nil, placed-whole, placed-front}
 use Rattle.numbers.proofs.Behind.{behind-one}
 
 -- ---- put into bytes
@@ -112,10 +112,35 @@ pub get-done : (s o : List ℕ) (p k n : ℕ) → n ≤ k → o ≡ placed o k (
 unfolding numbersAt
 get-done s o p k n h = let e : n - k ≡ 0 = omega arith in rw e (sym (placed-nil o k))
 
--- into the front of a buffer
-pub get-front : (s o new : List ℕ) (p n : ℕ) → n ≤ length o → new ≡ numbersAt s p (length (take n o)) → new ++ drop n o ≡ placed o 0 (numbersAt s p n)
-get-front s o new p n h e =
-    let k = length-numbers s p n in
-    ap (λ (x : List ℕ). x ++ drop n o) (e ∙ ap (numbersAt s p) (length-take-le n o h))
-    ∙ ap (λ (m : ℕ). numbersAt s p n ++ drop m o) (sym k)
-    ∙ sym (placed-front o (numbersAt s p n) (omega arith))
+-- ---- into the front of a buffer, as many as there is room for
+
+numbers-more : (s : List ℕ) (p m n : ℕ) → numbersAt s p (m + n) ≡ numbersAt s p m ++ numbersAt s (p + 4 * m) n
+unfolding numbersAt
+numbers-more s p zero n = let e : p + 4 * 0 ≡ p = omega arith in rw (e, zero-add n)
+numbers-more s p (suc m) n =
+    let e : suc m + n ≡ suc (m + n) = omega arith in
+    let f : p + 4 + 4 * m ≡ p + 4 * suc m = omega arith in
+    rw e (ap (_∷_ (numberAt s p)) (numbers-more s (p + 4) m n ∙ ap (λ (q : ℕ). numbersAt s (p + 4) m ++ numbersAt s q n) f))
+
+module _ (s o : List ℕ) (p n k : ℕ) (few : k ≡ min n (length o)) where
+  placed-few : placed o 0 (numbersAt s p n) ≡ placed o 0 (numbersAt s p k)
+  placed-few =
+      dite (decLt (length o) n)
+      (λ (h : length o < n).
+      let A = numbersAt s p k in
+      let B = numbersAt s (p + 4 * k) (n - k) in
+      let e : n ≡ k + (n - k) = omega arith in
+      let l = length-numbers s p k in
+      ap (λ (m : ℕ). placed o 0 (numbersAt s p m)) e
+      ∙ ap (placed o 0) (numbers-more s p k (n - k))
+      ∙ placed-append A B o 0
+      ∙ placed-out B (placed o 0 A) (0 + length A) (omega (arith, length-placed o 0 A)))
+      (λ h. let e : n ≡ k = omega arith in ap (λ (m : ℕ). placed o 0 (numbersAt s p m)) e)
+
+  pub get-front : (new : List ℕ) → new ≡ numbersAt s p (length (take k o)) → new ++ drop k o ≡ placed o 0 (numbersAt s p n)
+  get-front new e =
+      let l = length-numbers s p k in
+      ap (λ (x : List ℕ). x ++ drop k o) (e ∙ ap (numbersAt s p) (length-take-le k o (omega arith)))
+      ∙ ap (λ (m : ℕ). numbersAt s p k ++ drop m o) (sym l)
+      ∙ sym (placed-front o (numbersAt s p k) (omega arith))
+      ∙ sym placed-few

@@ -8,13 +8,19 @@ use Rattle.wave.specs.declared.state.Hot.{Hot}
 use Rattle.wave.specs.declared.state.State.{State}
 use Rattle.wave.specs.Layout.{blockNumbers, pathNumbers}
 
--- the words before those of the blocks
+-- the words before those of the blocks, and which of them is the depth, counted from 0
 abbrev pub hotWords : ℕ
 hotWords = 7
 
--- the words of a state with as many blocks as there is room for
+abbrev pub depthWord : ℕ
+depthWord = 6
+
+-- the words of a state with this many open blocks, and with as many as there is room for
+abbrev pub stateSize : ℕ → ℕ
+stateSize depth = hotWords + blockNumbers * depth
+
 abbrev pub stateWords : ℕ
-stateWords = hotWords + pathNumbers
+stateWords = stateSize nesting
 
 -- the numbers before the blocks in words, each 0 where there are not so many
 unfoldable pub hotIn : List ℕ → Hot
@@ -26,7 +32,7 @@ hotIn ws =
       p1 = getD ws 3 0;
       p2 = getD ws 4 0;
       p3 = getD ws 5 0;
-      depth = getD ws 6 0;
+      depth = getD ws depthWord 0;
     }
 
 -- the numbers of the blocks, as many as there is room for
@@ -44,4 +50,4 @@ wordsOf s =
 
 -- how many of them count with this depth, a depth over 32 read as 32
 unfoldable pub wordCount : ℕ → ℕ
-wordCount depth = hotWords + blockNumbers * min depth nesting
+wordCount depth = stateSize (min depth nesting)

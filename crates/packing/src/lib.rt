@@ -11,8 +11,10 @@ ghost use mathlib.Core.List.{_++_};
 ghost use lib.ListN.{getD};
 ghost use Rattle.packing.specs.Words.{hotIn, blocksIn, stateIn, wordsOf, wordCount};
 
-// The words before those of the blocks.
+// The words before those of the blocks, and which of them is the depth, counted from 0.
 pub const HOT_WORDS: usize = 7;
+
+pub const DEPTH_WORD: usize = 6;
 
 // The words of a state with as many blocks as there is room for.
 pub const STATE_WORDS: usize = HOT_WORDS + PATH_NUMBERS;
@@ -35,7 +37,7 @@ fn hot_of(words: &[u32]) -> Hot
         p1: word_at(words, 3),
         p2: word_at(words, 4),
         p3: word_at(words, 5),
-        depth: word_at(words, 6),
+        depth: word_at(words, DEPTH_WORD),
     }
 }
 

@@ -11,8 +11,9 @@ use crate::rooms::large_local;
 use crate::rooms::small_device;
 use crate::rooms::small_file;
 use crate::telling::say_unreadable;
-use captures::DEVICE_COUNT;
-use captures::LOCAL_COUNT;
+use captures::COUNTS_PLACE;
+use captures::DEVICE;
+use captures::LOCAL;
 use captures::answer::ReadAnswer;
 use files::Input;
 use files::read_whole;
@@ -20,19 +21,28 @@ use numbers::get;
 use numbers::put_bytes;
 use std::num::wrapping_add_usize;
 
-// Replays what was read of a capture, or says what it breaks that is none.
-fn replay_read(
+// Where a capture has the counts of words of its memories.
+const DEVICE_COUNT: usize = COUNTS_PLACE + 4 * DEVICE;
+
+const LOCAL_COUNT: usize = COUNTS_PLACE + 4 * LOCAL;
+
+// Replays the capture in the first bytes of `file`, which is room for what is written after, with this room for its words; or says what it
+// breaks that is none.
+fn replay_in(
     path: &[u8],
     sliced: bool,
-    read: ReadAnswer,
-    code: &[u32],
+    size: usize,
+    code: &mut [u32],
     regs: &mut [u32],
     device: &mut [u32],
     local: &mut [u32],
-    state: &[u32],
+    state: &mut [u32],
     file: &mut [u8],
 ) {
-    match read {
+    if file.len() < size {
+        return;
+    }
+    match captures::read(&file[..size], code, regs, device, local, state) {
         ReadAnswer::Unreadable { rule, place } => say_unreadable(path, rule, place),
         ReadAnswer::Read { head, counts } => replay_counted(
             head,
@@ -48,65 +58,42 @@ fn replay_read(
     }
 }
 
-// Replays the capture in the first bytes of `file`, which is room for what is written after, in the small rooms.
-fn replay_small(path: &[u8], sliced: bool, file: &mut [u8], size: usize) {
+// The same in the small rooms.
+fn replay_small(path: &[u8], sliced: bool, size: usize, file: &mut [u8]) {
     let mut code = [0u32; CODE_ROOM];
     let mut regs = [0u32; REGISTER_ROOM];
     let mut device = small_device();
     let mut local = [0u32; SMALL_LOCAL];
     let mut state = [0u32; STATE_ROOM];
-    if file.len() < size {
-        return;
-    }
-    let read = captures::read(
-        &file[..size],
+    replay_in(
+        path,
+        sliced,
+        size,
         &mut code,
         &mut regs,
         &mut device,
         &mut local,
         &mut state,
-    );
-    replay_read(
-        path,
-        sliced,
-        read,
-        &code,
-        &mut regs,
-        &mut device,
-        &mut local,
-        &state,
         file,
     );
 }
 
-// The same in the large rooms. Were the rooms lent to one function for both, the compiler would put the large ones on the stack of every
-// run: it makes a small function part of its caller.
-fn replay_large(path: &[u8], sliced: bool, file: &mut [u8], size: usize) {
+// The same in the large rooms.
+fn replay_large(path: &[u8], sliced: bool, size: usize, file: &mut [u8]) {
     let mut code = [0u32; CODE_ROOM];
     let mut regs = [0u32; REGISTER_ROOM];
     let mut device = large_device();
     let mut local = large_local();
     let mut state = [0u32; STATE_ROOM];
-    if file.len() < size {
-        return;
-    }
-    let read = captures::read(
-        &file[..size],
+    replay_in(
+        path,
+        sliced,
+        size,
         &mut code,
         &mut regs,
         &mut device,
         &mut local,
         &mut state,
-    );
-    replay_read(
-        path,
-        sliced,
-        read,
-        &code,
-        &mut regs,
-        &mut device,
-        &mut local,
-        &state,
         file,
     );
 }
@@ -127,7 +114,7 @@ fn read_on(path: &[u8], fd: i32, before: &[u8], size: usize, file: &mut [u8]) ->
 fn replay_on(path: &[u8], sliced: bool, fd: i32, before: &[u8], size: usize) {
     let mut file = large_file();
     if let Input::Read(all) = read_on(path, fd, before, size, &mut file) {
-        replay_large(path, sliced, &mut file, all);
+        replay_large(path, sliced, all, &mut file);
     }
 }
 
@@ -141,7 +128,7 @@ fn replay_open(path: &[u8], sliced: bool, fd: i32) {
         } else if SMALL_LOCAL < get(&file, LOCAL_COUNT) as usize {
             replay_on(path, sliced, fd, &file, size);
         } else {
-            replay_small(path, sliced, &mut file, size);
+            replay_small(path, sliced, size, &mut file);
         }
     }
 }

@@ -13,6 +13,7 @@ use stepping::settings::Settings;
 use wave::state::State;
 ghost use mathlib.Core.Path.{_≡_};
 ghost use Prim.Native.Nat.{_+_, _≤_, min};
+ghost use Rattle.stepping.specs.Step.{registersIn};
 ghost use Rattle.stepping.specs.Answer.{answered};
 ghost use Rattle.replay.specs.Replay.{mostSteps, resumeOf};
 ghost use Rattle.runs.specs.Calls.{budgeted as withBudget, added};
@@ -72,8 +73,8 @@ fn start(
     local: &mut [u32],
 ) -> Replayed
     ensures { λ r. ⌜
-        answered r (now (regs .exit)) (now (device .exit)) (now (local .exit))
-        ≡ startOf launched settings state (now (code .entry)) (now (regs .entry)) (now (device .entry)) (now (local .entry)) ⌝ }
+        answered r (registersIn settings (now (regs .exit))) (now (device .exit)) (now (local .exit))
+        ≡ startOf launched settings state (now (code .entry)) (registersIn settings (now (regs .entry))) (now (device .entry)) (now (local .entry)) ⌝ }
 {
     if launched {
         launch(settings, code, regs, device, local)
@@ -93,9 +94,9 @@ fn go_further(
 ) -> Replayed
     requires { ⌜ before .steps + settings .budget ≤ mostSteps ⌝ }
     ensures { λ r. ⌜
-        answered r (now (regs .exit)) (now (device .exit)) (now (local .exit))
+        answered r (registersIn settings (now (regs .exit))) (now (device .exit)) (now (local .exit))
         ≡ added (before .steps)
-        (resumeOf settings (before .state) (now (code .entry)) (now (regs .entry)) (now (device .entry)) (now (local .entry))) ⌝ }
+        (resumeOf settings (before .state) (now (code .entry)) (registersIn settings (now (regs .entry))) (now (device .entry)) (now (local .entry))) ⌝ }
 {
     let state = before.state;
     let mut after = resume(settings, state, code, regs, device, local);
@@ -118,8 +119,8 @@ fn run_in_slices(
 ) -> Replayed
     requires { ⌜ settings .budget ≤ mostSteps ⌝ }
     ensures { λ r. ⌜
-        answered r (now (regs .exit)) (now (device .exit)) (now (local .exit))
-        ≡ startOf launched settings state (now (code .entry)) (now (regs .entry)) (now (device .entry)) (now (local .entry)) ⌝ }
+        answered r (registersIn settings (now (regs .exit))) (now (device .exit)) (now (local .exit))
+        ≡ startOf launched settings state (now (code .entry)) (registersIn settings (now (regs .entry))) (now (device .entry)) (now (local .entry)) ⌝ }
 {
     let first = slice_of(settings.budget, FIRST_SLICE);
     let mut answer = start(
@@ -160,8 +161,8 @@ pub(crate) fn run(
     file: &mut [u8],
 ) -> Replayed
     ensures { λ r. ⌜
-        answered r (now (regs .exit)) (now (device .exit)) (now (local .exit))
-        ≡ startOf launched settings state (now (code .entry)) (now (regs .entry)) (now (device .entry)) (now (local .entry)) ⌝ }
+        answered r (registersIn settings (now (regs .exit))) (now (device .exit)) (now (local .exit))
+        ≡ startOf launched settings state (now (code .entry)) (registersIn settings (now (regs .entry))) (now (device .entry)) (now (local .entry)) ⌝ }
 {
     if MOST_STEPS < settings.budget {
         return start(settings, launched, state, code, regs, device, local);

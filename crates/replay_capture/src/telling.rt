@@ -8,12 +8,14 @@ use crate::text::put;
 use crate::text::put_decimal;
 use crate::text::put_number;
 use crate::text::write_front;
-use captures::CODE_COUNT;
-use captures::DEVICE_COUNT;
-use captures::LOCAL_COUNT;
-use captures::REGISTERS_COUNT;
+use captures::CODE;
+use captures::COUNTS_PLACE;
+use captures::DEVICE;
+use captures::LOCAL;
+use captures::REGISTERS;
 use captures::answer::Rule;
 use libc::STDERR_FILENO;
+use std::num::wrapping_sub_usize;
 
 // More than the bytes of a path and of what is told.
 const LINE_ROOM: usize = 8192;
@@ -27,11 +29,11 @@ fn put_most(out: &mut [u8], at: usize, most: usize, counted: &[u8]) -> usize {
 
 // What there is room for, of the words whose count stands at this byte.
 fn put_room(out: &mut [u8], at: usize, place: usize) -> usize {
-    match place {
-        CODE_COUNT => put_most(out, at, CODE_ROOM, b" code words"),
-        REGISTERS_COUNT => put_most(out, at, REGISTER_ROOM, b" register words"),
-        DEVICE_COUNT => put_most(out, at, LARGE_DEVICE, b" device words"),
-        LOCAL_COUNT => put_most(out, at, LARGE_LOCAL, b" local words"),
+    match wrapping_sub_usize(place, COUNTS_PLACE) / 4 {
+        CODE => put_most(out, at, CODE_ROOM, b" code words"),
+        REGISTERS => put_most(out, at, REGISTER_ROOM, b" register words"),
+        DEVICE => put_most(out, at, LARGE_DEVICE, b" device words"),
+        LOCAL => put_most(out, at, LARGE_LOCAL, b" local words"),
         _ => put_most(out, at, STATE_ROOM, b" state words"),
     }
 }

@@ -1,16 +1,16 @@
--- Each number is the one at its place.
-use Rattle.captures.proofs.Tested.{head-so}
+-- The settings are the numbers that stand at their place, by name.
+use mathlib.Core.Path.{ap}
 use borrow.Author.Needs.{needs}
+use Rattle.captures.specs.Capture.{headIn}
+use Rattle.captures.specs.Read.{settingsAt}
 use Rattle.captures.proofs.testing.head_of.Statement.{statement}
 use Rattle.captures.proofs.testing.head_of.Tie as tie
 
 returns : tie.Need-returns
-returns c =
-    let lanes = c .before in
-    let registers = lanes .before in
-    let width = registers .before in
-    head-so _ _ _ _ _ _ (width .before .get .ensures) (width .get2 .ensures) (registers .get3 .ensures) (lanes .get4 .ensures) (c .get5 .ensures)
+unfolding headIn settingsAt
+returns c = ap headIn (c .before .get-words .ensures)
 
 pub head-of-spec : {M : Type 1} → statement M
 head-of-spec = tie.close (tie.spec
-    (λ c κs. search needs) (λ c κs. search needs) (λ c κs. search needs) (λ c κs. search needs) (λ c κs. search needs) returns)
+    (λ c. search needs) (λ c κs. search needs) (λ c. search needs) (λ c. search needs) (λ c. search needs) (λ c. search needs)
+    (λ c. search needs) returns)
