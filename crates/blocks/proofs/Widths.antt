@@ -8,10 +8,10 @@ use lib.ListN.{length, take, drop, length-take, length-drop}
 use Rattle.refusals.specs.Table.{Rule, broken}
 use Rattle.instructions.specs.declared.instr.ControlOp.{ControlOp}
 use Rattle.instructions.specs.declared.instr.Instr.{Instr}
-use Rattle.words.specs.declared.fetching.ControlIn.{ControlIn}
+use Rattle.fetching.specs.declared.ControlIn.{ControlIn}
 use Rattle.words.specs.declared.reading.ReadAnswer.{ReadAnswer}
 use Rattle.instructions.specs.Forms.{limitsOf, sizeOf}
-use Rattle.words.specs.Fetching.{controlIn}
+use Rattle.fetching.specs.Fetching.{controlIn}
 use Rattle.words.specs.Layout.{wordsOf}
 use Rattle.words.specs.Reading.{readAt}
 use Rattle.instructions.specs.Registers.{registersBelow}

@@ -5,9 +5,9 @@ use mathlib.Core.List.{List}
 use Rattle.refusals.specs.Table.{Rule, broken}
 use Rattle.instructions.specs.declared.instr.ControlOp.{ControlOp}
 use Rattle.instructions.specs.declared.instr.Op.{Op}
-use Rattle.words.specs.declared.fetching.ControlIn.{ControlIn}
+use Rattle.fetching.specs.declared.ControlIn.{ControlIn}
 use Rattle.words.specs.declared.reading.ReadAnswer.{ReadAnswer}
-use Rattle.words.specs.Fetching.{controlIn}
+use Rattle.fetching.specs.Fetching.{controlIn}
 use Rattle.words.specs.Reading.{readAt}
 use Rattle.instructions.specs.Registers.{registersBelow}
 use Rattle.blocks.specs.declared.item.Item.{Item}

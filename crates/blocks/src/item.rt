@@ -1,10 +1,10 @@
 // What the blocks see of an instruction. No other part of this crate looks at a word.
+use fetching::ControlIn;
+use fetching::control_in;
 use instructions::instr::ControlOp;
 use instructions::instr::Op;
 use refusals::REGISTER;
 use refusals::Refusal;
-use words::fetching::ControlIn;
-use words::fetching::control_in;
 use words::reading::ReadAnswer;
 ghost use mathlib.Core.Path.{_≡_};
 ghost use Rattle.blocks.specs.Item.{controlItem, itemOf, itemAt};

@@ -6,7 +6,7 @@ use Prim.Native.Nat.{ℕ}
 use lib.ListN.{replicate, drop}
 use Rattle.ground.specs.Lists.{tabulate, inOrder}
 use Rattle.lanes.specs.Sets.{bit, has, without, first, only, setOf}
-use Rattle.words.specs.Fetching.{fetchAt}
+use Rattle.fetching.specs.Fetching.{fetchAt}
 use Rattle.blocks.specs.Item.{itemAt}
 use Rattle.blocks.specs.Open.{inLoop}
 use Rattle.blocks.specs.Scan as blocks

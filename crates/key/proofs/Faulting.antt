@@ -11,7 +11,7 @@ use Rattle.ground.specs.Tests.{allOf}
 use Rattle.lanes.specs.Sets.{bit, first, widest}
 use Rattle.lanes.proofs.Bits.{within-first-lt}
 use Rattle.numbers.specs.Numbers.{bound}
-use Rattle.words.specs.Fetching.{fetchAt}
+use Rattle.fetching.specs.Fetching.{fetchAt}
 use Rattle.wave.specs.Wave.{stateOf}
 use Rattle.fits.proofs.AtLane.{launched, fits-lanes}
 use Rattle.fits.proofs.Keeps.{active-launched}

@@ -13,7 +13,7 @@ use Rattle.ground.specs.Lists.{tabulate, inOrder}
 use Rattle.ground.specs.Tests.{sameList, oneOf, allOf}
 use Rattle.ground.proofs.Lists.{length-tabulate, tabulate-ext}
 use Rattle.lanes.specs.Sets.{bit, has, without, first, only, setOf}
-use Rattle.words.specs.Fetching.{fetchAt}
+use Rattle.fetching.specs.Fetching.{fetchAt}
 use Rattle.blocks.specs.declared.structure.Checked.the-variants.{Fine}
 use Rattle.blocks.specs.Item.{itemAt}
 use Rattle.blocks.specs.Code.{codeOf}

@@ -12,8 +12,8 @@ use Rattle.ground.proofs.Tests.{true-or-false}
 use Rattle.refusals.specs.declared.Refusal.{Refusal}
 use Rattle.refusals.specs.Table.{Rule, broken}
 use Rattle.instructions.specs.declared.instr.ControlOp.{ControlOp}
-use Rattle.words.specs.declared.fetching.ControlIn.{ControlIn}
-use Rattle.words.specs.Fetching.{controlIn}
+use Rattle.fetching.specs.declared.ControlIn.{ControlIn}
+use Rattle.fetching.specs.Fetching.{controlIn}
 use Rattle.words.specs.Layout.{wordsOf}
 use Rattle.instructions.specs.Registers.{registersBelow}
 use Rattle.words.proofs.Standing.{stood, standing, read-span}

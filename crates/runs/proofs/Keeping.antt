@@ -11,11 +11,11 @@ use lib.ListN.{length}
 use Rattle.ground.proofs.Bools.{never}
 use Rattle.lanes.specs.Sets.{bit, first, without}
 use Rattle.lanes.proofs.Members.{joined-le}
-use Rattle.words.specs.declared.fetching.ControlIn.{ControlIn}
-use Rattle.words.specs.declared.fetching.Fetched.{Fetched}
+use Rattle.fetching.specs.declared.ControlIn.{ControlIn}
+use Rattle.fetching.specs.declared.Fetched.{Fetched}
 use Rattle.instructions.specs.declared.instr.Instr.{Instr}
-use Rattle.words.specs.Fetching.{fetchAt, instrAt, controlIn}
-use Rattle.words.proofs.Fetches.{fetched, fetch-most}
+use Rattle.fetching.specs.Fetching.{fetchAt, instrAt, controlIn}
+use Rattle.fetching.proofs.Fetches.{fetched, fetch-most}
 use Rattle.blocks.specs.declared.item.Reading.{Reading}
 use Rattle.blocks.specs.declared.structure.Checked.the-variants.{Fine}
 use Rattle.blocks.specs.Item.{itemBy, itemOf, itemAt}

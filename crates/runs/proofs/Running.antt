@@ -12,12 +12,12 @@ use Rattle.ground.proofs.Bools.{never}
 use Rattle.lanes.specs.Sets.{widest}
 use Rattle.instructions.specs.declared.instr.Op.{Op}
 use Rattle.instructions.specs.declared.instr.Instr.{Instr}
-use Rattle.words.specs.declared.fetching.Fetched.{Fetched}
+use Rattle.fetching.specs.declared.Fetched.{Fetched}
 use Rattle.words.specs.declared.reading.ReadAnswer.{ReadAnswer}
 use Rattle.words.specs.Layout.{wordsOf}
-use Rattle.words.specs.Fetching.{counted}
+use Rattle.fetching.specs.Fetching.{counted}
 use Rattle.words.proofs.Standing.{stood, read-span}
-use Rattle.words.proofs.Fetches.{fetched}
+use Rattle.fetching.proofs.Fetches.{fetched}
 use Rattle.blocks.specs.Code.{codeOf}
 use Rattle.blocks.specs.Item.{itemOf}
 use Rattle.nesting.specs.OpenAt.{openAt}

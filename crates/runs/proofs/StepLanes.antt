@@ -12,10 +12,10 @@ use Rattle.instructions.specs.declared.instr.Op.{Op}
 use Rattle.instructions.specs.declared.instr.Space.{Space}
 use Rattle.instructions.specs.declared.instr.Instr.{Instr}
 use Rattle.instructions.specs.Forms.{limitsOf, guardFits, secondFits, fits, valid}
-use Rattle.words.specs.declared.fetching.ControlIn.{ControlIn}
-use Rattle.words.specs.declared.fetching.Fetched.{Fetched}
-use Rattle.words.specs.Fetching.{controlIn}
-use Rattle.words.proofs.Fetches.{control-is}
+use Rattle.fetching.specs.declared.ControlIn.{ControlIn}
+use Rattle.fetching.specs.declared.Fetched.{Fetched}
+use Rattle.fetching.specs.Fetching.{controlIn}
+use Rattle.fetching.proofs.Fetches.{control-is}
 use Rattle.wave.specs.Wave.{Preds}
 use Rattle.arith.specs.Arith.{wordOf}
 use Rattle.faulting.specs.Kinds.{clear}

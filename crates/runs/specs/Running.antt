@@ -13,7 +13,7 @@ use Rattle.words.specs.declared.reading.ReadAnswer.{ReadAnswer}
 use Rattle.words.specs.Layout.{wordsOf}
 use Rattle.words.specs.Reading.{readAt}
 use Rattle.words.specs.Rules.{Stands}
-use Rattle.words.specs.Fetching.{counted, fetchAt}
+use Rattle.fetching.specs.Fetching.{counted, fetchAt}
 use Rattle.blocks.specs.Open.{nesting}
 use Rattle.instructions.specs.Registers.{Past}
 use Rattle.wave.specs.Going.{onBy}

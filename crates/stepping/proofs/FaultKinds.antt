@@ -9,9 +9,9 @@ use Rattle.lanes.proofs.Bits.{bit-zero}
 use Rattle.lanes.proofs.Members.{has-le}
 use Rattle.instructions.specs.declared.instr.ControlOp.{ControlOp}
 use Rattle.instructions.specs.declared.instr.ControlOp.the-variants.{If, Else, Endif, Loop, Break, Continue, Endloop, Halt, Barrier, Nop}
-use Rattle.words.specs.declared.fetching.ControlIn.{ControlIn}
-use Rattle.words.specs.declared.fetching.Fetched.{Fetched}
-use Rattle.words.specs.Fetching.{controlIn}
+use Rattle.fetching.specs.declared.ControlIn.{ControlIn}
+use Rattle.fetching.specs.declared.Fetched.{Fetched}
+use Rattle.fetching.specs.Fetching.{controlIn}
 use Rattle.wave.specs.Wave.{Wave}
 use Rattle.control.specs.Rules.{barred}
 use Rattle.control.specs.Control.{faultLanes}

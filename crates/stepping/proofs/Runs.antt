@@ -8,7 +8,7 @@ use native.Mathlib.Nat.{zero-add, add-assoc}
 use native.Mathlib.Omega.{arith}
 use Rattle.ground.proofs.Tests.{true-or-false}
 use Rattle.faulting.specs.Kinds.{clear}
-use Rattle.words.specs.declared.fetching.Fetched.{Fetched}
+use Rattle.fetching.specs.declared.Fetched.{Fetched}
 use Rattle.stepping.specs.declared.settings.Settings.{Settings}
 use Rattle.stepping.specs.declared.answers.Outcome.{Outcome}
 use Rattle.stepping.specs.declared.answers.Outcome.the-variants.{Ended, OutOfBudget, Fault}

@@ -8,11 +8,11 @@ use lib.Dec.{eqb}
 use lib.ListN.{length}
 use Rattle.ground.proofs.Bools.{never}
 use Rattle.instructions.specs.declared.instr.ControlOp.{ControlOp}
-use Rattle.words.specs.declared.fetching.ControlIn.{ControlIn}
-use Rattle.words.specs.declared.fetching.Fetched.{Fetched}
-use Rattle.words.specs.Fetching.{controlIn}
+use Rattle.fetching.specs.declared.ControlIn.{ControlIn}
+use Rattle.fetching.specs.declared.Fetched.{Fetched}
+use Rattle.fetching.specs.Fetching.{controlIn}
 use Rattle.instructions.specs.declared.instr.ControlOp.the-variants.{If, Else, Endif, Loop, Break, Continue, Endloop, Halt, Barrier, Nop}
-use Rattle.words.proofs.Fetches.{control-is}
+use Rattle.fetching.proofs.Fetches.{control-is}
 use Rattle.wave.specs.declared.state.Hot.{Hot}
 use Rattle.control.specs.declared.rules.Stepped.{Stepped}
 use Rattle.blocks.specs.Open.{nesting}

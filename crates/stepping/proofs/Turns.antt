@@ -7,8 +7,8 @@ use native.Mathlib.Omega.{arith}
 use native.Mathlib.Nat.{add-zero}
 use lib.ListN.{length}
 use Rattle.faulting.specs.Kinds.{clear}
-use Rattle.words.specs.declared.fetching.Fetched.{Fetched}
-use Rattle.words.specs.Fetching.{fetchAt}
+use Rattle.fetching.specs.declared.Fetched.{Fetched}
+use Rattle.fetching.specs.Fetching.{fetchAt}
 use Rattle.stepping.specs.declared.settings.Settings.{Settings}
 use Rattle.stepping.specs.declared.answers.Outcome.{Outcome}
 use Rattle.stepping.specs.declared.answers.Outcome.the-variants.{Ended, OutOfBudget, Fault}

@@ -5,7 +5,7 @@ use mathlib.Core.List.{List}
 use lib.ListN.{length}
 use lib.Dec.{eqb, leb}
 use Rattle.lanes.specs.Sets.{without}
-use Rattle.words.specs.Fetching.{fetchAt}
+use Rattle.fetching.specs.Fetching.{fetchAt}
 use Rattle.faulting.specs.Kinds.{clear}
 use Rattle.stepping.specs.declared.settings.Settings.{Settings}
 use Rattle.stepping.specs.declared.answers.Outcome.{Outcome}

@@ -4,9 +4,9 @@ use mathlib.Core.Bool.{cond}
 use mathlib.Core.List.{List}
 use Rattle.lanes.specs.Sets.{widest, first}
 use Rattle.instructions.specs.declared.instr.Instr.{Instr}
-use Rattle.words.specs.declared.fetching.ControlIn.{ControlIn}
-use Rattle.words.specs.declared.fetching.Fetched.{Fetched}
-use Rattle.words.specs.Fetching.{controlIn}
+use Rattle.fetching.specs.declared.ControlIn.{ControlIn}
+use Rattle.fetching.specs.declared.Fetched.{Fetched}
+use Rattle.fetching.specs.Fetching.{controlIn}
 use Rattle.wave.specs.Wave.{Wave}
 use Rattle.wave.specs.Going.{executingOf, onwardBy}
 use Rattle.control.specs.Control.{controlRule, faultLanes}

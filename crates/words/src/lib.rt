@@ -1,4 +1,3 @@
 // The words: instructions from words, and words from instructions.
-pub mod fetching;
 pub mod reading;
 pub mod writing;

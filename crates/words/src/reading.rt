@@ -25,7 +25,7 @@ pub enum ReadAnswer {
 }
 
 // The word at a place, 0 past the end.
-pub(crate) fn word_at(words: &[u32], at: usize) -> u32
+pub fn word_at(words: &[u32], at: usize) -> u32
     ensures { λ r. ⌜ r ≡ getD (now (words .entry)) at 0 ⌝ }
 {
     if at < words.len() { words[at] } else { 0 }
@@ -58,7 +58,7 @@ fn headed(op: Op, first: u32, rs2: u8, rs3: u8, scope: u8, number: u32) -> Instr
 }
 
 // The instruction of both words; `word` counts only where there is a second word.
-pub(crate) fn instr_in(second: Second, op: Op, first: u32, word: u32) -> Instr
+pub fn instr_in(second: Second, op: Op, first: u32, word: u32) -> Instr
     ensures { λ r. ⌜ r ≡ instrIn second op first word ⌝ }
 {
     match second {

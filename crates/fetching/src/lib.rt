@@ -1,6 +1,4 @@
 // The instruction at a place of code that has passed the check: what its words say, with no test of them.
-use crate::reading::instr_in;
-use crate::reading::word_at;
 use instructions::forms::Second;
 use instructions::forms::limits_of;
 use instructions::instr::ControlOp;
@@ -10,10 +8,12 @@ use instructions::instr::Op;
 use opcodes::table::FoundOp;
 use opcodes::table::memory_or_control_op;
 use opcodes::table::register_op;
+use words::reading::instr_in;
+use words::reading::word_at;
 ghost use mathlib.Core.Path.{_≡_};
-ghost use Rattle.words.specs.Fetching.{nop, fetchAt, controlIn};
+ghost use Rattle.fetching.specs.Fetching.{nop, fetchAt, controlIn};
 ghost use Rattle.instructions.specs.Forms.{sizeOf};
 ghost use Rattle.words.specs.Layout.{opcodeIn, modifierIn};
 ghost use Rattle.opcodes.specs.Table.{opOf};
 
 // An instruction, and how many words it has.

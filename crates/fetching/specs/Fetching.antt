@@ -6,12 +6,12 @@ use lib.ListN.{getD, drop}
 use Rattle.instructions.specs.declared.instr.ControlOp.{ControlOp}
 use Rattle.instructions.specs.declared.instr.Instr.{Instr}
 use Rattle.instructions.specs.declared.instr.Op.{Op}
-use Rattle.words.specs.declared.fetching.ControlIn.{ControlIn}
-use Rattle.words.specs.declared.fetching.Fetched.{Fetched}
+use Rattle.fetching.specs.declared.ControlIn.{ControlIn}
+use Rattle.fetching.specs.declared.Fetched.{Fetched}
 use Rattle.opcodes.specs.declared.table.FoundOp.{FoundOp}
 use Rattle.opcodes.specs.Table.{opOf}
 use Rattle.instructions.specs.Forms.{limitsOf, size}
 use Rattle.words.specs.Layout.{opcodeIn, modifierIn, instr, instrIn}
 
 -- an instruction of so many words
 abbrev pub counted : Instr → ℕ → Fetched

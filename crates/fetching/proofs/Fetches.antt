@@ -13,15 +13,15 @@ use Rattle.instructions.specs.declared.instr.ControlOp.{ControlOp}
 use Rattle.instructions.specs.declared.instr.Instr.{Instr}
 use Rattle.instructions.specs.declared.instr.Op.{Op}
 use Rattle.instructions.specs.declared.forms.Limits.{Limits}
-use Rattle.words.specs.declared.fetching.ControlIn.{ControlIn}
+use Rattle.fetching.specs.declared.ControlIn.{ControlIn}
 use Rattle.words.specs.declared.reading.ReadAnswer.{ReadAnswer}
 use Rattle.opcodes.specs.declared.table.FoundOp.{FoundOp}
 use Rattle.opcodes.specs.Table.{opOf}
 use Rattle.instructions.specs.Forms.{limitsOf, sizeOf, fits}
 use Rattle.words.specs.Layout.{opcodeIn, modifierIn, instrIn, spareZero}
 use Rattle.words.specs.Reading.{readFields, readOp, readFrom, readAt}
-use Rattle.words.specs.Fetching.{counted, nop, saidBy, saidFrom, fetchAt, controlIn}
+use Rattle.fetching.specs.Fetching.{counted, nop, saidBy, saidFrom, fetchAt, controlIn}
 use Rattle.words.proofs.Sizes.{size-most}
 
 -- ---- by the numbers that the code has
 module _ (ws : List ℕ) (at : ℕ) where

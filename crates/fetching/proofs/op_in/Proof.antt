@@ -1,10 +1,10 @@
 -- The part that is searched is the one that has the word's opcode, if any has (Parts).
 use mathlib.Core.Path.{sym, _∙_}
 use Rattle.words.specs.Layout.{modifierIn}
 use Rattle.opcodes.proofs.Parts.{of-registers, of-memory-or-control}
 use borrow.Author.Needs.{needs}
-use Rattle.words.proofs.fetching.op_in.Statement.{statement}
-use Rattle.words.proofs.fetching.op_in.Tie as tie
+use Rattle.fetching.proofs.op_in.Statement.{statement}
+use Rattle.fetching.proofs.op_in.Tie as tie
 
 returns : tie.Need-returns
 returns c = c .memory-or-control-op .ensures ∙ sym (of-memory-or-control _ (modifierIn (c .before .before .args .first)) (c .before .if1 .taken))

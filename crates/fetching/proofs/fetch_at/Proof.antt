@@ -1,9 +1,9 @@
 -- What was fetched is what the definition says, by the way that the search for the operation ended.
 use mathlib.Core.Path.{sym, _∙_}
-use Rattle.words.proofs.Fetches.{fetch-past, fetch-missing, fetch-carried}
+use Rattle.fetching.proofs.Fetches.{fetch-past, fetch-missing, fetch-carried}
 use borrow.Author.Needs.{needs}
-use Rattle.words.proofs.fetching.fetch_at.Statement.{statement}
-use Rattle.words.proofs.fetching.fetch_at.Tie as tie
+use Rattle.fetching.proofs.fetch_at.Statement.{statement}
+use Rattle.fetching.proofs.fetch_at.Tie as tie
 
 returns : tie.Need-returns
 returns c = c .no-operation .ensures ∙ sym (fetch-past _ _ (c .before .if1 .taken))

@@ -1,7 +1,7 @@
 -- Each arm is the line of the table for its operation.
 use borrow.Author.Needs.{needs}
-use Rattle.words.proofs.fetching.control_in.Statement.{statement}
-use Rattle.words.proofs.fetching.control_in.Tie as tie
+use Rattle.fetching.proofs.control_in.Statement.{statement}
+use Rattle.fetching.proofs.control_in.Tie as tie
 
 returns : tie.Need-returns
 returns c = rw (c .before .op .given .1)
