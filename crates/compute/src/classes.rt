@@ -44,7 +44,7 @@ fn write_results(results: Results, t: Lanes, rd: u8, shape: Shape, regs: &mut [u
     let value = results.value;
     let faults = results.faults;
     if is_clear(faults) {
-        write_lanes(value, t, rd, shape, regs);
+        write_lanes(&value, t, rd, shape, regs);
     }
     faults
 }
@@ -115,7 +115,7 @@ fn load_through(
     let width = shape.width;
     let at = addresses(shape, regs, x.rs1, x.number);
     let faults = address_faults(space, at, memory.len(), t, width);
-    let value = load_lanes(at, memory, width);
+    let value = load_lanes(&at, memory, width);
     write_results(Results { value, faults }, t, x.rd, shape, regs)
 }
 
@@ -134,7 +134,7 @@ fn store_through(
     let at = addresses(shape, regs, x.rs1, x.number);
     let faults = address_faults(space, at, memory.len(), t, shape.width);
     if is_clear(faults) {
-        store_lanes(at, t, x.rd, shape, regs, memory);
+        store_lanes(&at, t, x.rd, shape, regs, memory);
     }
     faults
 }
@@ -203,8 +203,8 @@ pub(crate) fn carry_change(
     let at = gather(shape, regs, x.rs1);
     let faults = address_faults(Space::Device, at, device.len(), t, shape.width);
     if is_clear(faults) {
-        let value = change_lanes(change, at, t, x.rs2, rs3, shape, regs, device);
-        write_lanes(value, t, x.rd, shape, regs);
+        let value = change_lanes(change, &at, t, x.rs2, rs3, shape, regs, device);
+        write_lanes(&value, t, x.rd, shape, regs);
     }
     faults
 }

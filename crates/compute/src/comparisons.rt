@@ -73,9 +73,9 @@ pub(crate) fn compare_results(op: CompareOp, shape: Shape, regs: &[u32], rs1: u8
 }
 
 // The predicate after the lanes `t` wrote their results to it.
-pub(crate) fn predicate_after(results: ByLane, t: Lanes, predicate: Lanes, width: u32) -> Lanes
+pub(crate) fn predicate_after(results: &ByLane, t: Lanes, predicate: Lanes, width: u32) -> Lanes
     requires { ⌜ width ≤ widest ⌝ }
-    ensures { λ r. ⌜ r ≡ predicateOf width predicate t results ⌝ }
+    ensures { λ r. ⌜ r ≡ predicateOf width predicate t (now (results .entry)) ⌝ }
 {
     let mut set: Lanes = 0;
     let mut i: u32 = 0;

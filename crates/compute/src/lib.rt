@@ -98,7 +98,7 @@ fn carry(
     let results = compare_results(o, shape, regs, x.rs1, x.rs2);
     Carried {
         faults: no_faults(),
-        predicate: predicate_after(results, t, predicate, shape.width),
+        predicate: predicate_after(&results, t, predicate, shape.width),
     }
 }
 

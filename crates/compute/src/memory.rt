@@ -69,9 +69,9 @@ fn put_picked(memory: &mut [u32], address: u32, value: u32, picked: bool)
 }
 
 // The words that the lanes' addresses name.
-pub(crate) fn load_lanes(at: ByLane, memory: &[u32], width: u32) -> ByLane
+pub(crate) fn load_lanes(at: &ByLane, memory: &[u32], width: u32) -> ByLane
     requires { ⌜ width ≤ widest ⌝ }
-    ensures { λ r. ⌜ r ≡ loadLanes width at (now (memory .entry)) ⌝ }
+    ensures { λ r. ⌜ r ≡ loadLanes width (now (at .entry)) (now (memory .entry)) ⌝ }
 {
     let mut out = [0u32; EACH_LANE];
     let mut i: u32 = 0;
@@ -85,7 +85,7 @@ pub(crate) fn load_lanes(at: ByLane, memory: &[u32], width: u32) -> ByLane
 
 // Stores register `rd` of the lanes `t` at their addresses, in rising lane order.
 pub(crate) fn store_lanes(
-    at: ByLane,
+    at: &ByLane,
     t: Lanes,
     rd: u8,
     shape: Shape,
@@ -93,7 +93,7 @@ pub(crate) fn store_lanes(
     memory: &mut [u32],
 )
     requires { ⌜ Stands shape (lanesIn shape (now regs)) rd ⌝ }
-    ensures { λ r. ⌜ now (memory .exit) ≡ changesOf (shape .width) at (λ i old. getD (gatherOf shape (lanesIn shape (now (regs .entry))) rd) i 0) t (now (memory .entry)) ⌝ }
+    ensures { λ r. ⌜ now (memory .exit) ≡ changesOf (shape .width) (now (at .entry)) (λ i old. getD (gatherOf shape (lanesIn shape (now (regs .entry))) rd) i 0) t (now (memory .entry)) ⌝ }
 {
     let width = shape.width;
     let mut i: u32 = 0;
@@ -130,7 +130,7 @@ fn change_word(change: Change, address: u32, operand: u32, desired: u32, memory:
 // word that each found. Lanes that do not execute cost nothing: the loop goes from one lane of the set to the next.
 pub(crate) fn change_lanes(
     change: Change,
-    at: ByLane,
+    at: &ByLane,
     t: Lanes,
     rs2: u8,
     rs3: u8,
@@ -139,8 +139,8 @@ pub(crate) fn change_lanes(
     memory: &mut [u32],
 ) -> ByLane
     requires { ⌜ Stands shape (lanesIn shape (now regs)) rs2 × Stands shape (lanesIn shape (now regs)) rs3 ⌝ }
-    ensures found { λ r. ⌜ r ≡ byLane (shape .width) (oldOf at (changeTo change shape (lanesIn shape (now (regs .entry))) rs2 rs3) t (now (memory .entry))) ⌝ }
-    ensures left { λ r. ⌜ now (memory .exit) ≡ changesOf (shape .width) at (changeTo change shape (lanesIn shape (now (regs .entry))) rs2 rs3) t (now (memory .entry)) ⌝ }
+    ensures found { λ r. ⌜ r ≡ byLane (shape .width) (oldOf (now (at .entry)) (changeTo change shape (lanesIn shape (now (regs .entry))) rs2 rs3) t (now (memory .entry))) ⌝ }
+    ensures left { λ r. ⌜ now (memory .exit) ≡ changesOf (shape .width) (now (at .entry)) (changeTo change shape (lanesIn shape (now (regs .entry))) rs2 rs3) t (now (memory .entry)) ⌝ }
 {
     let mut out = [0u32; EACH_LANE];
     let mut rest = lanes::meet(t, lanes::first(shape.width));

@@ -34,9 +34,9 @@ pub(crate) fn gather(shape: Shape, regs: &[u32], register: u8) -> ByLane
 }
 
 // Writes the results of every lane to its register `rd`.
-fn write_all_lanes(results: ByLane, rd: u8, shape: Shape, regs: &mut [u32])
+fn write_all_lanes(results: &ByLane, rd: u8, shape: Shape, regs: &mut [u32])
     requires { ⌜ Stands shape (lanesIn shape (now regs)) rd ⌝ }
-    ensures { λ r. ⌜ lanesIn shape (now (regs .exit)) ≡ writeLanes shape (lanesIn shape (now (regs .entry))) rd (first (shape .width)) results ⌝ }
+    ensures { λ r. ⌜ lanesIn shape (now (regs .exit)) ≡ writeLanes shape (lanesIn shape (now (regs .entry))) rd (first (shape .width)) (now (results .entry)) ⌝ }
 {
     let width = shape.width;
     let mut i: u32 = 0;
@@ -49,9 +49,9 @@ fn write_all_lanes(results: ByLane, rd: u8, shape: Shape, regs: &mut [u32])
 }
 
 // Writes the results of the lanes `t` to their registers `rd`, lane by lane with a choice.
-fn write_some_lanes(results: ByLane, t: Lanes, rd: u8, shape: Shape, regs: &mut [u32])
+fn write_some_lanes(results: &ByLane, t: Lanes, rd: u8, shape: Shape, regs: &mut [u32])
     requires { ⌜ Stands shape (lanesIn shape (now regs)) rd ⌝ }
-    ensures { λ r. ⌜ lanesIn shape (now (regs .exit)) ≡ writeLanes shape (lanesIn shape (now (regs .entry))) rd t results ⌝ }
+    ensures { λ r. ⌜ lanesIn shape (now (regs .exit)) ≡ writeLanes shape (lanesIn shape (now (regs .entry))) rd t (now (results .entry)) ⌝ }
 {
     let width = shape.width;
     let mut i: u32 = 0;
@@ -65,9 +65,9 @@ fn write_some_lanes(results: ByLane, t: Lanes, rd: u8, shape: Shape, regs: &mut 
 }
 
 // Writes the results of the lanes `t` to their registers `rd`.
-pub(crate) fn write_lanes(results: ByLane, t: Lanes, rd: u8, shape: Shape, regs: &mut [u32])
+pub(crate) fn write_lanes(results: &ByLane, t: Lanes, rd: u8, shape: Shape, regs: &mut [u32])
     requires { ⌜ Stands shape (lanesIn shape (now regs)) rd ⌝ }
-    ensures { λ r. ⌜ lanesIn shape (now (regs .exit)) ≡ writeLanes shape (lanesIn shape (now (regs .entry))) rd t results ⌝ }
+    ensures { λ r. ⌜ lanesIn shape (now (regs .exit)) ≡ writeLanes shape (lanesIn shape (now (regs .entry))) rd t (now (results .entry)) ⌝ }
 {
     if t == lanes::first(shape.width) {
         write_all_lanes(results, rd, shape, regs);

@@ -88,44 +88,43 @@ fn access_op(opcode: u32) -> FoundOp
     FoundOp::Carried(op)
 }
 
-// The operation of ATOMIC by its modifier.
+// The operation of ATOMIC by its modifier. Each arm is the whole answer, as in `control_op`: put together after the match, it would go
+// through memory at every step.
 fn atomic_op(modifier: u32) -> FoundOp
     ensures { λ r. ⌜ Named modifierOf atomics modifier r ⌝ }
 {
-    let op = match modifier {
-        0 => AtomicOp::Add,
-        1 => AtomicOp::Sub,
-        2 => AtomicOp::And,
-        3 => AtomicOp::Or,
-        4 => AtomicOp::Xor,
-        5 => AtomicOp::Min,
-        6 => AtomicOp::Max,
-        7 => AtomicOp::Umin,
-        8 => AtomicOp::Umax,
-        9 => AtomicOp::Xchg,
-        _ => return FoundOp::Missing,
-    };
-    FoundOp::Carried(Op::Atomic(op))
+    match modifier {
+        0 => FoundOp::Carried(Op::Atomic(AtomicOp::Add)),
+        1 => FoundOp::Carried(Op::Atomic(AtomicOp::Sub)),
+        2 => FoundOp::Carried(Op::Atomic(AtomicOp::And)),
+        3 => FoundOp::Carried(Op::Atomic(AtomicOp::Or)),
+        4 => FoundOp::Carried(Op::Atomic(AtomicOp::Xor)),
+        5 => FoundOp::Carried(Op::Atomic(AtomicOp::Min)),
+        6 => FoundOp::Carried(Op::Atomic(AtomicOp::Max)),
+        7 => FoundOp::Carried(Op::Atomic(AtomicOp::Umin)),
+        8 => FoundOp::Carried(Op::Atomic(AtomicOp::Umax)),
+        9 => FoundOp::Carried(Op::Atomic(AtomicOp::Xchg)),
+        _ => FoundOp::Missing,
+    }
 }
 
 // The operation of control by its modifier.
 fn control_op(modifier: u32) -> FoundOp
     ensures { λ r. ⌜ Named modifierOf controls modifier r ⌝ }
 {
-    let op = match modifier {
-        0 => ControlOp::If,
-        1 => ControlOp::Else,
-        2 => ControlOp::Endif,
-        3 => ControlOp::Loop,
-        4 => ControlOp::Break,
-        5 => ControlOp::Continue,
-        6 => ControlOp::Endloop,
-        9 => ControlOp::Halt,
-        10 => ControlOp::Barrier,
-        15 => ControlOp::Nop,
-        _ => return FoundOp::Missing,
-    };
-    FoundOp::Carried(Op::Control(op))
+    match modifier {
+        0 => FoundOp::Carried(Op::Control(ControlOp::If)),
+        1 => FoundOp::Carried(Op::Control(ControlOp::Else)),
+        2 => FoundOp::Carried(Op::Control(ControlOp::Endif)),
+        3 => FoundOp::Carried(Op::Control(ControlOp::Loop)),
+        4 => FoundOp::Carried(Op::Control(ControlOp::Break)),
+        5 => FoundOp::Carried(Op::Control(ControlOp::Continue)),
+        6 => FoundOp::Carried(Op::Control(ControlOp::Endloop)),
+        9 => FoundOp::Carried(Op::Control(ControlOp::Halt)),
+        10 => FoundOp::Carried(Op::Control(ControlOp::Barrier)),
+        15 => FoundOp::Carried(Op::Control(ControlOp::Nop)),
+        _ => FoundOp::Missing,
+    }
 }
 
 // The operation of an opcode and a modifier among those that touch registers and predicates alone.

@@ -27,15 +27,15 @@ compare-results-requires c κs =
 
 predicate-after-requires : tie.Need-predicate-after-requires
 predicate-after-requires c κs =
-    let z = c .before .before .before .before .before .before .before .before .before in
+    let z = c .before .before .before .before .before .before .before .before .before .before in
     narrow (z .args .shape) (z .args .x) (z .args .regs .now) (z .pre)
 
 returns-2 : tie.Need-returns-2
 returns-2 c =
-    let a = c .before .before .before .before .before .before .before .before .before .before .args in
+    let a = c .before .before .before .before .before .before .before .before .before .before .before .args in
     arm-compare (a .shape) (a .x) (a .t) (a .predicate) (a .regs .now) (a .device .now) (a .local .now) _
-    (c .before .before .before .before .before .op .given .1) _ _ _ (c .before .no-faults .ensures)
-    (c .before .before .compare-results .ensures) (c .predicate-after .ensures)
+    (c .before .before .before .before .before .before .op .given .1) _ _ _ (c .before .before .no-faults .ensures)
+    (c .before .before .before .compare-results .ensures) (c .predicate-after .ensures)
 
 pub carry-spec : {M : Type 1} → statement M
 carry-spec = tie.close (tie.spec

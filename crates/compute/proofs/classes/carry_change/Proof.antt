@@ -9,8 +9,8 @@ use Rattle.compute.proofs.classes.carry_change.Tie as tie
 returns : tie.Need-returns
 returns c local p =
     let w = c .before .before in
-    let v = w .before .before .before .before in
-    let i = v .before .before .before in
+    let v = w .before .before .before .before .before in
+    let i = v .before .before .before .before in
     let g = i .before .before .before in
     let d = g .before .before in
     let z = d .before .before .before in
@@ -30,7 +30,7 @@ returns-2 c local p =
 
 change-lanes-requires : tie.Need-change-lanes-requires
 change-lanes-requires c κs =
-    let d = c .before .before .before .before .before .before .before in
+    let d = c .before .before .before .before .before .before .before .before in
     let h = ready-change (d .before .before .before .args .change) (d .before .before .before .pre) in
     (h .rs2, rw (d .desired .ensures) (h .desired))
 
@@ -39,5 +39,5 @@ carry-change-spec = tie.close (tie.spec
     (λ c κs. search needs)
     (λ c κs. ready-change (c .before .before .before .before .args .change) (c .before .before .before .before .pre) .rs1)
     (λ c κs. search needs) (λ c κs. search needs) change-lanes-requires
-    (λ c κs. let z = c .before .before .before .before .before .before .before .before .before .before .before .before .before .before in ready-change (z .args .change) (z .pre) .rd)
+    (λ c κs. let z = c .before .before .before .before .before .before .before .before .before .before .before .before .before .before .before .before in ready-change (z .args .change) (z .pre) .rd)
     (λ c. search needs) (λ c. search needs) returns (λ c. search needs) returns-2)

@@ -16,7 +16,7 @@ returns : tie.Need-returns
 returns c =
     let w = c .before .before in
     let v = w .before .before in
-    let f = v .before in
+    let f = v .before .before in
     let z = f .before in
     let a = z .before .before .before .before .args in
     settled-as (w .write-results .ensures) _ _
@@ -28,5 +28,5 @@ returns c =
 pub load-through-spec : {M : Type 1} → statement M
 load-through-spec = tie.close (tie.spec
     (λ c κs. ready-rs1 (c .before .before .before .pre) refl) (λ c κs. search needs)
-    (λ c κs. ready-narrow (c .before .before .before .before .before .pre))
-    (λ c κs. ready-rd (c .before .before .before .before .before .before .before .pre) refl) (λ c. search needs) returns)
+    (λ c κs. ready-narrow (c .before .before .before .before .before .before .pre))
+    (λ c κs. ready-rd (c .before .before .before .before .before .before .before .before .pre) refl) (λ c. search needs) returns)

@@ -25,10 +25,10 @@ faults-are z =
 returns : tie.Need-returns
 returns c =
     let w = c .before .before in
-    let t = w .before .before .before in
+    let t = w .before .before .before .before in
     let z = t .before in
     let a = z .before .before .before .before .args in
-    settled-changed _ _ _ (faults-are z) (t .is-clear .ensures) _ _ _ (w .before .before .if1 .taken)
+    settled-changed _ _ _ (faults-are z) (t .is-clear .ensures) _ _ _ (w .before .before .before .if1 .taken)
     (w .store-lanes .ensures
     ∙ ap (λ (at : List ℕ). changesOf (a .shape .width) at (λ i old. getD (gatherOf (a .shape) (a .regs .now) (a .x .rd)) i 0) (a .t) (a .memory .now))
     (z .before .addresses .ensures))
@@ -39,4 +39,4 @@ returns-2 c = settled-same _ _ _ (faults-are (c .before .before)) (c .before .is
 pub store-through-spec : {M : Type 1} → statement M
 store-through-spec = tie.close (tie.spec
     (λ c κs. ready-rs1 (c .before .before .pre) refl) (λ c κs. search needs) (λ c κs. search needs)
-    (λ c κs. ready-rd (c .before .before .before .before .before .before .before .pre) refl) (λ c. search needs) returns returns-2)
+    (λ c κs. ready-rd (c .before .before .before .before .before .before .before .before .pre) refl) (λ c. search needs) returns returns-2)

@@ -8,8 +8,8 @@ use Rattle.compute.proofs.classes.write_results.Tie as tie
 returns : tie.Need-returns
 returns c =
     let w = c .before .before in
-    let z = w .before .before .before in
-    settled-changed _ _ _ refl (z .is-clear .ensures) _ _ _ (w .before .before .if1 .taken) (w .write-lanes .ensures)
+    let z = w .before .before .before .before in
+    settled-changed _ _ _ refl (z .is-clear .ensures) _ _ _ (w .before .before .before .if1 .taken) (w .write-lanes .ensures)
 
 returns-2 : tie.Need-returns-2
 returns-2 c = settled-same _ _ _ refl (c .before .is-clear .ensures) _ _ (c .if1 .left)

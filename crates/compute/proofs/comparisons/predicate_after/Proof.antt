@@ -14,23 +14,23 @@ use Rattle.compute.proofs.comparisons.predicate_after.Statement.{statem
 use Rattle.compute.proofs.comparisons.predicate_after.Tie as tie
 
 abbrev Inv-loop : tie.InvT-loop
-Inv-loop t predicate width results set₀ i₀ set i = Marked width (λ j. has t j && eqb (getD results j 0) 1) set i
+Inv-loop results t predicate width set₀ i₀ set i = Marked width (λ j. has t j && eqb (getD results j 0) 1) set i
 
 abbrev μ-loop : tie.MeasureT-loop
-μ-loop t predicate width results set₀ i₀ set i = width - i
+μ-loop results t predicate width set₀ i₀ set i = width - i
 
 loop-holds : tie.Need-loop-holds Inv-loop μ-loop
 loop-holds c = marked-none _
 
-array-read-marked : tie.Need-array-read-marked Inv-loop μ-loop
-array-read-marked c = omega (arith, c .before .before .pre)
+element-copy-out-marked : tie.Need-element-copy-out-marked Inv-loop μ-loop
+element-copy-out-marked c = omega (arith, c .before .before .pre)
 
 marked-requires : tie.Need-marked-requires Inv-loop μ-loop
-marked-requires c κs = omega (arith, c .before .before .pre)
+marked-requires c κs = omega (arith, c .before .before .before .pre)
 
 loop-again : tie.Need-loop-again Inv-loop μ-loop
 loop-again c =
-    let h = c .before .before .before in
+    let h = c .before .before .before .before in
     marked-more (h .loop .inv) (omega arith) _ _ (c .union .ensures) (c .before .marked .ensures)
 
 returns : tie.Need-returns Inv-loop μ-loop
@@ -40,5 +40,5 @@ returns c =
 
 pub predicate-after-spec : {M : Type 1} → statement M
 predicate-after-spec = tie.close (tie.spec
-    Inv-loop μ-loop loop-holds (λ c. omega arith) (λ c. omega arith) array-read-marked marked-requires (λ c κs. search needs)
+    Inv-loop μ-loop loop-holds (λ c. omega arith) (λ c. omega arith) element-copy-out-marked marked-requires (λ c κs. search needs)
     (λ c. omega arith) (λ c. omega arith) loop-again (λ c κs. search needs) (λ c κs. search needs) returns)

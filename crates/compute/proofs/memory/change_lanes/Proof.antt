@@ -18,11 +18,11 @@ use Rattle.compute.proofs.memory.change_lanes.Statement.{statement}
 use Rattle.compute.proofs.memory.change_lanes.Tie as tie
 
 abbrev Inv-loop : tie.InvT-loop
-Inv-loop change t rs2 rs3 shape regs memory₀ at out₀ rest₀ memory out rest =
+Inv-loop change at t rs2 rs3 shape regs memory₀ out₀ rest₀ memory out rest =
     Walked (shape .width) at (changeTo change shape regs rs2 rs3) t memory₀ memory out rest
 
 abbrev μ-loop : tie.MeasureT-loop
-μ-loop change t rs2 rs3 shape regs memory₀ at out₀ rest₀ memory out rest = rest
+μ-loop change at t rs2 rs3 shape regs memory₀ out₀ rest₀ memory out rest = rest
 
 loop-holds : tie.Need-loop-holds Inv-loop μ-loop
 loop-holds c = walked-none _ _ _ _ _ _ (c .before .before .before .before .pre .0 .narrow) (c .meet .ensures) (c .before .first .ensures)
@@ -47,36 +47,36 @@ inside z =
 
 loop-less : tie.Need-loop-less Inv-loop μ-loop
 loop-less c =
-    let z = c .before .before .before .before .before .before .before .before .before .before in
+    let z = c .before .before .before .before .before .before .before .before .before .before .before in
     waiting-fewer (z .before .before .loop .inv .waiting) _ _ _ (c .without .ensures) (c .before .marked .ensures) (here z)
 
 loop-again : tie.Need-loop-again Inv-loop μ-loop
 loop-again c =
     let w = c .before .before .before .before in
-    let s = w .before .before .before .before in
+    let s = w .before .before .before .before .before in
     let z = s .before .before in
     let a = z .before .before .before .before .before .before .before in
     let low = here z .low in
     walked-more (z .before .before .loop .inv) widest _ _ _ _ _ (z .lowest .ensures) (here z) (w .change-word .ensures .0)
     (w .change-word .ensures .1
     ∙ ap (set (z .before .before .loop .memory) _)
-    (ap₂ (λ (x y : ℕ). changeOf (a .args .change) (wordAt (a .args .t2) (z .before .before .loop .memory) (z .lowest .result)) x y) (read-gathered (a .pre .0) _ _ (s .before .slot .ensures) low)
+    (ap₂ (λ (x y : ℕ). changeOf (a .args .change) (wordAt (a .args .at .now) (z .before .before .loop .memory) (z .lowest .result)) x y) (read-gathered (a .pre .0) _ _ (s .before .slot .ensures) low)
     (read-gathered (a .pre .1) _ _ (s .slot2 .ensures) low)))
     (c .without .ensures) (c .before .marked .ensures)
 
 same-length : tie.Need-same-length Inv-loop μ-loop
 same-length c =
     let a = c .before .before .before .before .before .before .args in
-    length-turned (length-change-turn (a .t2) (changeTo (a .change) (a .shape) (a .regs .now) (a .rs2) (a .rs3)) (a .t))
+    length-turned (length-change-turn (a .at .now) (changeTo (a .change) (a .shape) (a .regs .now) (a .rs2) (a .rs3)) (a .t))
     (c .before .loop .inv .turned)
 
 pub change-lanes-spec : {M : Type 1} → statement M
 change-lanes-spec = tie.close (tie.spec
     Inv-loop μ-loop (λ c κs. search needs) (λ c κs. search needs) loop-holds (λ c κs. search needs) (λ c κs. search needs)
     (λ c κs. search needs) (λ c. omega arith) (λ c. omega (arith, narrow (c .before .before)))
-    (λ c. omega (arith, narrow (c .before .before))) (λ c. let h = inside c in omega arith) (λ c. inside (c .before) .0)
-    (λ c. let h = inside (c .before) in omega arith) (λ c. inside (c .before .before) .1) (λ c κs. search needs)
-    (λ c. omega (arith, narrow (c .before .before .before .before .before .before .before .before)))
-    (λ c. omega (arith, narrow (c .before .before .before .before .before .before .before .before)))
-    (λ c κs. narrow (c .before .before .before .before .before .before .before .before)) (λ c κs. search needs) loop-less loop-again
+    (λ c. omega (arith, narrow (c .before .before))) (λ c. let h = inside (c .before) in omega arith) (λ c. inside (c .before .before) .0)
+    (λ c. let h = inside (c .before .before) in omega arith) (λ c. inside (c .before .before .before) .1) (λ c κs. search needs)
+    (λ c. omega (arith, narrow (c .before .before .before .before .before .before .before .before .before)))
+    (λ c. omega (arith, narrow (c .before .before .before .before .before .before .before .before .before)))
+    (λ c κs. narrow (c .before .before .before .before .before .before .before .before .before)) (λ c κs. search needs) loop-less loop-again
     same-length (λ c. walked-all _ (c .before .loop .inv) (omega arith)))

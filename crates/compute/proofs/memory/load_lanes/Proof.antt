@@ -9,16 +9,16 @@ use Rattle.compute.proofs.memory.load_lanes.Statement.{statement}
 use Rattle.compute.proofs.memory.load_lanes.Tie as tie
 
 abbrev Inv-loop : tie.InvT-loop
-Inv-loop memory width at out₀ i₀ out i = Filled width (wordAt at memory) out i
+Inv-loop at memory width out₀ i₀ out i = Filled width (wordAt at memory) out i
 
 abbrev μ-loop : tie.MeasureT-loop
-μ-loop memory width at out₀ i₀ out i = width - i
+μ-loop at memory width out₀ i₀ out i = width - i
 
 loop-holds : tie.Need-loop-holds Inv-loop μ-loop
 loop-holds c = filled-none _ (c .before .pre)
 
 loop-again : tie.Need-loop-again Inv-loop μ-loop
-loop-again c = filled-more (c .before .before .loop .inv) (omega arith) _ (c .word .ensures)
+loop-again c = filled-more (c .before .before .before .loop .inv) (omega arith) _ (c .word .ensures)
 
 returns : tie.Need-returns Inv-loop μ-loop
 unfolding loadLanes

@@ -12,17 +12,17 @@ use Rattle.compute.proofs.registers.write_some_lanes.Statement.{stateme
 use Rattle.compute.proofs.registers.write_some_lanes.Tie as tie
 
 abbrev Inv-loop : tie.InvT-loop
-Inv-loop t rd shape regs₀ results width i₀ regs i = Turned (shape .width) (writeTurn shape rd t results) regs₀ regs i
+Inv-loop results t rd shape regs₀ width i₀ regs i = Turned (shape .width) (writeTurn shape rd t results) regs₀ regs i
 
 abbrev μ-loop : tie.MeasureT-loop
-μ-loop t rd shape regs₀ results width i₀ regs i = width - i
+μ-loop results t rd shape regs₀ width i₀ regs i = width - i
 
 -- the lane's register stands in the buffer, which keeps its length
 inside : (z : tie.After-slot Inv-loop μ-loop) → z .slot .result < length (z .before .before .before .before .args .regs .now)
 inside z = slot-in (z .before .before .before .before .pre) _ _ (z .slot .ensures) (omega arith)
 
 long : (z : tie.At-loop Inv-loop μ-loop) → length (z .loop .regs) ≡ length (z .before .before .args .regs .now)
-long z = let a = z .before .before .args in length-turned (length-write-turn (a .shape) (a .rd) (a .t) (a .t1)) (z .loop .inv)
+long z = let a = z .before .before .args in length-turned (length-write-turn (a .shape) (a .rd) (a .t) (a .results .now)) (z .loop .inv)
 
 loop-holds : tie.Need-loop-holds Inv-loop μ-loop
 loop-holds c = turned-none _ _
@@ -36,22 +36,22 @@ slice-read-old c = omega (arith, long (c .before .before .before), inside (c .be
 picks-requires : tie.Need-picks-requires Inv-loop μ-loop
 picks-requires c κs = omega (arith, c .before .before .before .before .before .pre .narrow)
 
-array-read-chosen : tie.Need-array-read-chosen Inv-loop μ-loop
-array-read-chosen c = omega (arith, c .before .before .before .before .before .before .pre .narrow)
+element-copy-out-chosen : tie.Need-element-copy-out-chosen Inv-loop μ-loop
+element-copy-out-chosen c = omega (arith, c .before .before .before .before .before .before .pre .narrow)
 
 mul-regs : tie.Need-mul-regs Inv-loop μ-loop
-mul-regs c = let h = inside (c .before .before .before) in omega arith
+mul-regs c = let h = inside (c .before .before .before .before) in omega arith
 
 slice-write-regs : tie.Need-slice-write-regs Inv-loop μ-loop
-slice-write-regs c = let z = c .before .before .before in omega (arith, long (z .before .before), inside z)
+slice-write-regs c = let z = c .before .before .before .before in omega (arith, long (z .before .before), inside z)
 
 loop-again : tie.Need-loop-again Inv-loop μ-loop
 loop-again c =
-    let z = c .before .before .before in
+    let z = c .before .before .before .before in
     let a = z .before .before .before .before .args in
     let h = z .before .before .loop in
     turned-more (h .inv) (omega arith) _
-    (write-turn (a .shape) (a .rd) (a .t) (a .t1) _ (h .regs) _ _ _ (z .slot .ensures) (c .before .picks .ensures) (c .chosen .ensures))
+    (write-turn (a .shape) (a .rd) (a .t) (a .results .now) _ (h .regs) _ _ _ (z .slot .ensures) (c .before .before .picks .ensures) (c .chosen .ensures))
 
 same-length : tie.Need-same-length Inv-loop μ-loop
 same-length c = long (c .before)
@@ -63,4 +63,4 @@ returns c = turned-all (c .before .loop .inv) (omega arith)
 pub write-some-lanes-spec : {M : Type 1} → statement M
 write-some-lanes-spec = tie.close (tie.spec
     Inv-loop μ-loop loop-holds (λ c κs. search needs) (λ c. omega arith) mul-old slice-read-old picks-requires (λ c. omega arith)
-    array-read-chosen (λ c κs. search needs) mul-regs slice-write-regs (λ c. omega arith) (λ c. omega arith) loop-again same-length returns)
+    element-copy-out-chosen (λ c κs. search needs) mul-regs slice-write-regs (λ c. omega arith) (λ c. omega arith) loop-again same-length returns)
