@@ -1,6 +1,6 @@
 -- An instruction by the class of its operation: the one definition of what it does, as each of the code's arms does it.
-use mathlib.Core.Path.{_≡_, refl, ap, ap₂, _∙_}
-use mathlib.Core.Bool.{Bool, true, false}
+use mathlib.Core.Path.{_≡_, refl, sym, ap, ap₂, _∙_}
+use mathlib.Core.Bool.{Bool, true, false, cond}
 use mathlib.Core.List.{List}
 use Prim.Native.Nat.{ℕ, _≤_, _<_}
 use lib.ListN.{length, getD}
@@ -181,14 +181,16 @@ module _ (shape : Shape) (x : Instr) (t p : ℕ) (regs device local : List ℕ) 
     abbrev to : ℕ → ℕ → ℕ → ℕ
     to c = changeTo change shape regs (x .rs2) c
 
-    pub arm-change : (v after device′ : List ℕ) → test ≡ true → v ≡ byLane W (oldOf l (to c) t device) → device′ ≡ changesOf W l (to c) t device
-        → after ≡ write v → outcome f (lent p after device′ local) ≡ done
-    arm-change v after device′ e g d w =
+    pub arm-change : (r : Faults) (v after device′ : List ℕ) → test ≡ true → v ≡ byLane W (oldOf l (to c) t device)
+        → device′ ≡ changesOf W l (to c) t device → Settled f (write v) r regs after → outcome r (lent p after device′ local) ≡ done
+    arm-change r v after device′ e g d w =
         let made = to (desiredBy change x) in
-        settled-outcome
+        let wrote : after ≡ write v = w .left ∙ ap (λ (b : Bool). cond b (write v) regs) (sym tested ∙ e) in
+        ap (λ (a : Faults). outcome a (lent p after device′ local)) (w .answered)
+        ∙ settled-outcome
         (settled-changed _ f test faults-are tested (changes made) before (lent p after device′ local) e
         (ap₂ (λ (r m : List ℕ). left r (memories m local))
-        (w ∙ ap write (g ∙ ap₂ (λ (k : List ℕ) (c : ℕ). byLane W (oldOf k (to c) t device)) read named))
+        (wrote ∙ ap write (g ∙ ap₂ (λ (k : List ℕ) (c : ℕ). byLane W (oldOf k (to c) t device)) read named))
         (d ∙ ap₂ (λ (k : List ℕ) (c : ℕ). changesOf W k (to c) t device) read named)))
         ∙ as-change change (y .is)
 

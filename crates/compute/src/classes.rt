@@ -204,7 +204,7 @@ pub(crate) fn carry_change(
     let faults = address_faults(Space::Device, at, device.len(), t, shape.width);
     if is_clear(faults) {
         let value = change_lanes(change, &at, t, x.rs2, rs3, shape, regs, device);
-        write_lanes(&value, t, x.rd, shape, regs);
+        return write_results(Results { value, faults }, t, x.rd, shape, regs);
     }
     faults
 }

@@ -9,15 +9,15 @@ use Rattle.compute.proofs.classes.carry_change.Tie as tie
 returns : tie.Need-returns
 returns c local p =
     let w = c .before .before in
-    let v = w .before .before .before .before .before in
+    let v = w .before .before .before .before in
     let i = v .before .before .before .before in
     let g = i .before .before .before in
     let d = g .before .before in
     let z = d .before .before .before in
     let a = z .args in
     arm-change (a .shape) (a .x) (a .t) p (a .regs .now) (a .device .now) local (a .change) (z .pre) _ (d .desired .ensures) _ (g .gather .ensures)
-    _ (i .before .before .address-faults .ensures) _ (i .before .is-clear .ensures) _ _ _ (i .if1 .taken) (v .change-lanes .ensures .0)
-    (v .change-lanes .ensures .1) (w .write-lanes .ensures)
+    _ (i .before .before .address-faults .ensures) _ (i .before .is-clear .ensures) _ _ _ _ (i .if1 .taken) (v .change-lanes .ensures .0)
+    (v .change-lanes .ensures .1) (w .write-results .ensures)
 
 returns-2 : tie.Need-returns-2
 returns-2 c local p =
@@ -39,5 +39,5 @@ carry-change-spec = tie.close (tie.spec
     (λ c κs. search needs)
     (λ c κs. ready-change (c .before .before .before .before .args .change) (c .before .before .before .before .pre) .rs1)
     (λ c κs. search needs) (λ c κs. search needs) change-lanes-requires
-    (λ c κs. let z = c .before .before .before .before .before .before .before .before .before .before .before .before .before .before .before .before in ready-change (z .args .change) (z .pre) .rd)
+    (λ c κs. let z = c .before .before .before .before .before .before .before .before .before .before .before .before .before .before .before in ready-change (z .args .change) (z .pre) .rd)
     (λ c. search needs) (λ c. search needs) returns (λ c. search needs) returns-2)
