@@ -1,45 +1,42 @@
--- The open blocks of a wave that fits, in a body: their numbers are below 2^32, and they are blocks of the layout.
+-- The open blocks of a wave that fits, in a body: there is room for their numbers, which are below 2^32, and they are blocks of the layout.
 use mathlib.Core.Path.{_≡_, refl, ap, _∙_}
 use mathlib.Core.Bool.{Bool, true, false}
 use mathlib.Core.List.{List, [], _∷_, reverse, reverse-cons}
-use Prim.Native.Nat.{ℕ, _-_, _*_, _≤_}
+use Prim.Native.Nat.{ℕ, _≤_}
 use native.Mathlib.Omega.{arith}
 use borrow.Author.Tests.{le-leb}
-use lib.ListN.{length, take}
 use Rattle.ground.specs.Tests.{allOf}
 use Rattle.ground.proofs.Bools.{and-both}
 use Rattle.ground.proofs.Tests.{all-append}
-use Rattle.numbers.specs.Numbers.{Small}
-use Rattle.numbers.proofs.Numerals.{small-cons, small-take, small-replicate}
+use Rattle.numbers.proofs.Numerals.{small-nil, small-cons}
+use Rattle.body.specs.Body.{blockFormat, setBytes}
 use Rattle.body.specs.Layout.{lastPlace, beforePart, loopPart, blockFits}
 use Rattle.lanes.specs.declared.said.Block.{Block}
-use Rattle.wave.specs.Layout.{blockNumbers, pathNumbers, six, laid, arrayOf}
 use Rattle.wave.specs.Layout.{isLoop}
 use Rattle.fits.proofs.OpenBlocks.{Sized, AllSized}
 use Rattle.replay.specs.Replay.{mostWords}
+use Rattle.key.proofs.Numbers.{block-room}
 
 module _ (words : ℕ) (short : words ≤ mostWords) where
-  -- ---- in numbers of four bytes
+  -- what holds of every block that is sized holds of all of them
+  all-sized : (t : Block → Bool) → ((b : Block) → Sized words b → t b ≡ true) → (p : List Block) → AllSized words p → allOf t (reverse p) ≡ true
+  unfolding allOf
+  all-sized t h [] s = refl
+  all-sized t h (b ∷ p) s =
+      ap (allOf t) (reverse-cons b p) ∙ all-append t (reverse p) (b ∷ []) (all-sized t h p (s .1)) (and-both (t b) true (h b (s .0)) refl)
 
-  six-small : (b : Block) (rest : List ℕ) → Sized words b → Small rest → Small (six b rest)
-  six-small b rest s r =
-      small-cons (b .part) _ (omega (arith, s .few))
+  sized-room : (b : Block) → Sized words b → blockFormat setBytes .fits b ≡ true
+  sized-room b s =
+      block-room b
+      (small-cons (b .part) _ (omega (arith, s .few))
       (small-cons (b .opener) _ (omega (arith, s .opener))
       (small-cons (b .entered) _ (s .entered)
       (small-cons (b .aside) _ (s .aside)
       (small-cons (b .again) _ (s .again)
-      (small-cons (b .left) rest (s .left) r)))))
+      (small-cons (b .left) [] (s .left) small-nil))))))
 
-  laid-small : (p : List Block) (rest : List ℕ) → AllSized words p → Small rest → Small (laid p rest)
-  laid-small [] rest s r = r
-  laid-small (b ∷ p) rest s r = laid-small p (six b rest) (s .1) (six-small b rest (s .0) r)
-
-  pub path-small : (p : List Block) → AllSized words p → Small (take (blockNumbers * length p) (arrayOf p))
-  path-small p s =
-      small-take (blockNumbers * length p) (arrayOf p)
-      (laid-small p _ s (small-replicate (pathNumbers - blockNumbers * length p) 0 (omega arith)))
-
-  -- ---- of the layout
+  pub all-room : (p : List Block) → AllSized words p → allOf (blockFormat setBytes .fits) (reverse p) ≡ true
+  all-room = all-sized (blockFormat setBytes .fits) sized-room
 
   block-fits : (b : Block) → Sized words b → (l : Bool) → isLoop b ≡ l → blockFits b ≡ true
   unfolding blockFits
@@ -55,9 +52,4 @@ module _ (words : ℕ) (short : words ≤ mostWords) where
       )
 
   pub all-fit : (p : List Block) → AllSized words p → allOf blockFits (reverse p) ≡ true
-  unfolding allOf
-  all-fit [] s = refl
-  all-fit (b ∷ p) s =
-      ap (allOf blockFits) (reverse-cons b p)
-      ∙ all-append blockFits (reverse p) (b ∷ []) (all-fit p (s .1))
-      (and-both (blockFits b) true (block-fits b (s .0) (isLoop b) refl) refl)
+  all-fit = all-sized blockFits (λ b s. block-fits b s (isLoop b) refl)

@@ -1,105 +1,79 @@
 -- The body of parts: put piece by piece, read again from the buffer it was put into, and copied from there.
-use mathlib.Core.Path.{_≡_, refl, sym, ap, ap₂, _∙_, subst}
-use Prim.Native.Nat.{ℕ, _+_, _*_, _≤_, _<_}
+use mathlib.Core.Path.{_≡_, sym, ap, ap₂, _∙_}
+use Prim.Native.Nat.{ℕ, _+_, _≤_, _<_}
 use mathlib.Core.Bool.{true, false, and-true}
-use mathlib.Core.List.{List, _∷_, _++_}
+use mathlib.Core.List.{List, _++_}
 use native.Mathlib.Omega.{arith}
 use borrow.Author.Tests.{le-leb, lt-leb}
 use lib.ListN.{length, take, drop, length-append}
 use lib.Seq.{take-append-seam, length-take-le}
 use Rattle.refusals.specs.Table.{Rule, broken}
 use Rattle.refusals.specs.declared.Refusal.{Refusal}
+use Rattle.ground.specs.Tests.{allOf}
+use Rattle.ground.proofs.Bools.{and-both}
 use Rattle.ground.proofs.Tests.{false-of}
-use Rattle.numbers.specs.Numbers.{bytesOf, bytesOfAll, bound, Small}
+use Rattle.numbers.specs.Numbers.{bound}
 use Rattle.numbers.specs.Placed.{placed}
-use Rattle.numbers.proofs.Numerals.{small-cons, small-append}
 use Rattle.numbers.proofs.Placing.{placed-front}
-use Rattle.numbers.proofs.Behind.{behind, behind-one}
+use Rattle.formats.specs.Format.{bytesIn, number, both, counted, seenAs}
+use Rattle.formats.specs.Putting.{Put}
+use Rattle.formats.proofs.Digits.{length-bytesIn}
+use Rattle.formats.proofs.Putting.{four-fits, put-behind}
 use Rattle.body.specs.declared.BodyAnswer.the-variants.{Length, Refused as NoBody}
-use Rattle.body.specs.Body.{Parts, bodyFormat, setBytes, bytesOfBody, sizeAt}
+use Rattle.body.specs.Body.{Parts, faultFormat, blockFormat, bodyFormat, setBytes, bytesOfBody, sizeAt}
 use Rattle.body.specs.Layout.{kindLists, fitsLayout, mostDepth, starts, startsBody, bodyAnswer}
-use Rattle.body.specs.Places.{kindsPlace}
 use Rattle.body.proofs.Places.{length-body}
 use Rattle.body.proofs.Starts.{fits-of, starts-of}
 use Rattle.body.proofs.Written.{parts-back, size-back}
 use Rattle.body.proofs.Answers.{length-says, refused-says}
 use Rattle.wave.specs.declared.state.State.{State}
-use Rattle.wave.specs.Layout.{blockNumbers, pathNumbers}
 use Rattle.faulting.specs.declared.faults.Faults.{Faults}
 use Rattle.faulting.specs.Kinds.{listed}
 use Rattle.faulting.proofs.EveryKind.{few-listed}
 use Rattle.stepping.specs.declared.answers.Outcome.{Outcome}
 use Rattle.stepping.specs.declared.answers.Replayed.{Replayed}
 use Rattle.key.specs.declared.answer.KeyAnswer.the-variants.{Wrote, Refused}
-use Rattle.key.specs.Key.{partsOf, keyed, bodyKey, outcomeKey, keyOf}
-use Rattle.key.specs.Putting.{room, kindsEnd, After, after, afterNumbers, kindNumbers, headNumbers, stateNumbers, numbersOf, Put, copied}
-use Rattle.key.proofs.Numbers.{numbers-bytes, numbers-room}
-use Rattle.key.proofs.Kinding.{length-twos}
-use Rattle.key.proofs.Paths.{block-numbers, length-blocks}
+use Rattle.key.specs.Key.{blocksOf, partsOf, keyed, bodyKey, outcomeKey, keyOf}
+use Rattle.key.specs.Putting.{room, kindsAfter, headFormat, stateFormat, copied}
+use Rattle.key.proofs.Kinding.{kinds-long}
+use Rattle.key.proofs.Paths.{length-blocks}
 
 -- ---- put piece by piece
 
--- kernel number, place and kinds
-module _ (kernel place : ℕ) (f : Faults) where
-  pub head-stands : (o o₁ o₂ o₃ o₄ : List ℕ) (count at : ℕ) → o₁ ≡ placed o 0 (bytesOf kernel) → o₂ ≡ placed o₁ 4 (bytesOf place)
-      → count ≡ length (listed f) → o₃ ≡ placed o₂ 8 (bytesOf count) → after at o₄ ≡ afterNumbers (kindNumbers f) kindsPlace o₃
-      → after at o₄ ≡ afterNumbers (headNumbers kernel place f) 0 o
-  unfolding afterNumbers headNumbers
-  head-stands o o₁ o₂ o₃ o₄ count at e1 e2 ec e3 e4 =
-      let kinds = kindNumbers f in
-      let p : at ≡ kindsPlace + 4 * length kinds = ap (λ (z : After). z .place) e4 in
-      let c3 = e3 ∙ ap (λ (n : ℕ). placed o₂ 8 (bytesOf n)) ec in
-      let h3 = behind-one (length (listed f)) kinds o₂ o₃ o₄ 8 12 refl c3 (ap (λ (z : After). z .out) e4) in
-      let h2 = behind-one place (length (listed f) ∷ kinds) o₁ o₂ o₄ 4 8 refl e2 h3 in
-      ap₂ after (omega (arith, p)) (behind-one kernel (place ∷ length (listed f) ∷ kinds) o o₁ o₄ 0 4 refl e1 h2)
-
-  pub head-small : kernel < bound → place < bound → Small (kindNumbers f) → Small (headNumbers kernel place f)
-  unfolding headNumbers
-  head-small k p fs = small-cons kernel _ k (small-cons place _ p (small-cons (length (listed f)) _ (omega (arith, few-listed f)) fs))
-
-  pub head-place : (o o₁ : List ℕ) (at : ℕ) → after at o₁ ≡ afterNumbers (headNumbers kernel place f) 0 o → at ≤ kindsEnd
-  unfolding afterNumbers headNumbers kindNumbers
-  head-place o o₁ at e = omega (arith, ap (λ (z : After). z .place) e, length-twos (listed f), few-listed f)
-
--- the sets, the depth and the blocks
-module _ (s : State) (low : s .hot .depth ≤ mostDepth) (long : length (s .blocks) ≡ pathNumbers) where
-  abbrev sixes : List ℕ
-  sixes = take (blockNumbers * s .hot .depth) (s .blocks)
-
-  sixes-are : s .hot .active ∷ s .hot .halted ∷ s .hot .depth ∷ sixes ≡ stateNumbers s
-  unfolding stateNumbers
-  sixes-are = rw (block-numbers s (omega arith))
-
-  pub state-stands : (o o₁ o₂ o₃ o₄ : List ℕ) (at : ℕ) → o₁ ≡ placed o at (bytesOf (s .hot .active))
-      → o₂ ≡ placed o₁ (at + 4) (bytesOf (s .hot .halted)) → o₃ ≡ placed o₂ (at + 8) (bytesOf (s .hot .depth))
-      → o₄ ≡ placed o₃ (at + 12) (bytesOfAll sixes) → o₄ ≡ placed o at (bytesOfAll (stateNumbers s))
-  state-stands o o₁ o₂ o₃ o₄ at e1 e2 e3 e4 =
-      let h3 = behind-one (s .hot .depth) sixes o₂ o₃ o₄ (at + 8) (at + 12) (omega arith) e3 e4 in
-      let h2 = behind-one (s .hot .halted) (s .hot .depth ∷ sixes) o₁ o₂ o₄ (at + 4) (at + 8) (omega arith) e2 h3 in
-      behind-one (s .hot .active) (s .hot .halted ∷ s .hot .depth ∷ sixes) o o₁ o₄ at (at + 4) refl e1 h2
-      ∙ ap (λ (ns : List ℕ). placed o at (bytesOfAll ns)) sixes-are
-
-  pub state-small : s .hot .active < bound → s .hot .halted < bound → Small sixes → Small (stateNumbers s)
-  state-small a h bs =
-      subst Small sixes-are (small-cons (s .hot .active) _ a (small-cons (s .hot .halted) _ h (small-cons (s .hot .depth) _ (omega arith) bs)))
-
--- all of them
 module _ (kernel : ℕ) (f : Faults) (s : State) where
-  numbers-are : headNumbers kernel (s .hot .place) f ++ stateNumbers s ≡ numbersOf (partsOf kernel f s)
-  unfolding headNumbers stateNumbers numbersOf partsOf kindNumbers
-  numbers-are = rw (length-blocks s)
+  -- the place behind the fault kinds
+  head-long : (place : ℕ) → kindsAfter (length (listed f)) ≡ 0 + length (headFormat .write (kernel, (place, listed f)))
+  unfolding both number counted
+  head-long place =
+      let n : (k : ℕ) → length (bytesIn 4 k) ≡ 4 = length-bytesIn 4 in
+      simp (length-append, n, kinds-long (listed f)) (omega arith)
 
-  pub put-stands : (o o₁ o₂ : List ℕ) (at : ℕ) → after at o₁ ≡ afterNumbers (headNumbers kernel (s .hot .place) f) 0 o
-      → o₂ ≡ placed o₁ at (bytesOfAll (stateNumbers s)) → o₂ ≡ placed o 0 (bytesOfBody (partsOf kernel f s))
-  unfolding afterNumbers
-  put-stands o o₁ o₂ at e1 e2 =
-      behind (headNumbers kernel (s .hot .place) f) (stateNumbers s) o o₁ o₂ 0 at (ap (λ (z : After). z .place) e1) (ap (λ (z : After). z .out) e1) e2
-      ∙ ap (λ (ns : List ℕ). placed o 0 (bytesOfAll ns)) numbers-are
-      ∙ ap (placed o 0) (numbers-bytes (partsOf kernel f s))
+  -- the parts as the body's format takes them
+  parts-put : {o now : List ℕ}
+      → Put (both (number 4) (both (number 4) (both (counted (faultFormat setBytes)) stateFormat)))
+      (kernel, (s .hot .place, (listed f, (s .hot .active, (s .hot .halted, blocksOf s))))) o 0 now
+      → Put (bodyFormat setBytes) (partsOf kernel f s) o 0 now
+  unfolding bodyFormat seenAs partsOf
+  parts-put p = record { room = p .room; stands = p .stands }
 
-  pub put-room : Small (headNumbers kernel (s .hot .place) f) → Small (stateNumbers s) → bodyFormat setBytes .fits (partsOf kernel f s) ≡ true
-  put-room h k =
-      numbers-room (partsOf kernel f s) (subst Small numbers-are (small-append (headNumbers kernel (s .hot .place) f) (stateNumbers s) h k))
+  -- the state behind the head
+  pub body-put : {o o₁ o₂ : List ℕ} {at : ℕ} → Put headFormat (kernel, (s .hot .place, listed f)) o 0 o₁ → at ≡ kindsAfter (length (listed f))
+      → Put stateFormat (s .hot .active, (s .hot .halted, blocksOf s)) o₁ at o₂ → Put (bodyFormat setBytes) (partsOf kernel f s) o 0 o₂
+  body-put h e t = parts-put (put-behind (number 4) (number 4) (counted (faultFormat setBytes)) h (e ∙ head-long (s .hot .place)) t)
+
+  -- room for every number and set
+  pub parts-room : kernel < bound → s .hot .place < bound → allOf (faultFormat setBytes .fits) (listed f) ≡ true → s .hot .active < bound
+      → s .hot .halted < bound → s .hot .depth < bound → allOf (blockFormat setBytes .fits) (blocksOf s) ≡ true
+      → bodyFormat setBytes .fits (partsOf kernel f s) ≡ true
+  unfolding bodyFormat seenAs both counted number partsOf
+  parts-room k p fs a h d bs =
+      and-both (number 4 .fits kernel) _ (four-fits _ k)
+      (and-both (number 4 .fits (s .hot .place)) _ (four-fits _ p)
+      (and-both (counted (faultFormat setBytes) .fits (listed f)) _
+      (and-both _ _ (four-fits _ (omega (arith, few-listed f))) fs)
+      (and-both (number 4 .fits (s .hot .active)) _ (four-fits _ a)
+      (and-both (number 4 .fits (s .hot .halted)) _ (four-fits _ h)
+      (and-both _ _ (four-fits _ (omega (arith, length-blocks s))) bs)))))
 
 -- there is room for it
 pub body-room : (kernel : ℕ) (f : Faults) (s : State) → s .hot .depth ≤ mostDepth → length (bytesOfBody (partsOf kernel f s)) ≤ room
@@ -147,7 +121,7 @@ module _ (s out : List ℕ) where
 
 -- ---- what was put is what is copied
 
-module _ (p : Parts) (before now : List ℕ) (h : Put p before now) (fit : length (bytesOfBody p) ≤ length before) where
+module _ (p : Parts) (before now : List ℕ) (h : Put (bodyFormat setBytes) p before 0 now) (fit : length (bytesOfBody p) ≤ length before) where
   stands : now ≡ bytesOfBody p ++ drop (length (bytesOfBody p)) before
   stands = h .stands ∙ placed-front before (bytesOfBody p) fit
 

@@ -15,7 +15,6 @@ use Rattle.fetching.specs.Fetching.{fetchAt}
 use Rattle.wave.specs.Wave.{stateOf}
 use Rattle.fits.proofs.AtLane.{launched, fits-lanes}
 use Rattle.fits.proofs.Keeps.{active-launched}
-use Rattle.wave.proofs.Laying.{length-array}
 use Rattle.fits.proofs.Stays.{path-room}
 use Rattle.fits.proofs.OpenBlocks.{AllSized, path-sized}
 use Rattle.faulting.specs.declared.faults.Faults.{Faults}
@@ -28,14 +27,14 @@ use Rattle.runs.proofs.Keeping.{inside}
 use Rattle.runs.proofs.Stopping.{FaultsAt}
 use Rattle.stepping.proofs.FaultKinds.{Faulty, step-faulty, step-apart, Lanes, step-lanes}
 use Rattle.runs.proofs.Returns.{Launchable, lanes-most, InOrder}
-use Rattle.body.specs.Body.{bodyFormat, setBytes}
+use Rattle.body.specs.Body.{blockFormat, bodyFormat, setBytes}
 use Rattle.body.specs.Layout.{mostDepth, kindLists, blockFits, fitsLayout}
 use Rattle.body.proofs.Starts.{of-fits}
 use Rattle.key.specs.Key.{partsOf}
-use Rattle.key.proofs.Bodies.{head-small, state-small, put-room}
-use Rattle.key.proofs.Kinding.{small-kinds}
+use Rattle.key.proofs.Bodies.{parts-room}
+use Rattle.key.proofs.Kinding.{kinds-room}
 use Rattle.key.proofs.KindsFit.{kinds-fit}
-use Rattle.key.proofs.BlocksFit.{path-small, all-fit}
+use Rattle.key.proofs.BlocksFit.{all-room, all-fit}
 use Rattle.key.proofs.Paths.{length-blocks, blocks-path}
 
 module _ (s : Settings) (code : List ℕ) (l : Launchable s code) (m : Machine) (o : InOrder s code l m) (f : Faults) (x : FaultsAt s code m f)
@@ -81,11 +80,10 @@ module _ (s : Settings) (code : List ℕ) (l : Launchable s code) (m : Machine) 
   -- every number is below 2^32, so that there is room for it
   pub machine-room : kernel < bound → bodyFormat setBytes .fits (partsOf kernel f (stateOf (m .wave) (m .preds))) ≡ true
   machine-room k =
-      put-room kernel f (stateOf (m .wave) (m .preds))
-      (head-small kernel (m .wave .place) f k (omega (arith, there, few-words))
-      (small-kinds f (λ k. active-small (lanesOfKind k f) (lanes k))))
-      (state-small (stateOf (m .wave) (m .preds)) room (length-array (m .wave .path) room)
-      (active-small (m .wave .active) (λ i. omega arith)) halted-small (path-small (length code) few-words (m .wave .path) blocks-sized))
+      let state = stateOf (m .wave) (m .preds) in
+      parts-room kernel f state k (omega (arith, there, few-words)) (kinds-room f (λ k. active-small (lanesOfKind k f) (lanes k)))
+      (active-small (m .wave .active) (λ i. omega arith)) halted-small (omega (arith, room))
+      (ap (allOf (blockFormat setBytes .fits)) (blocks-path (m .wave) (m .preds)) ∙ all-room (length code) few-words (m .wave .path) blocks-sized)
 
   -- the body is of the layout
   pub machine-fits : fitsLayout (partsOf kernel f (stateOf (m .wave) (m .preds))) ≡ true

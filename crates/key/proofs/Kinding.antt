@@ -1,5 +1,5 @@
--- The fault kinds: how many have lanes, and the numbers of those that have, kind after kind as the loops go.
-use mathlib.Core.Path.{_≡_, refl, sym, ap, ap₂, _∙_, subst}
+-- The fault kinds: how many have lanes, and those that have, put kind after kind as the loops go.
+use mathlib.Core.Path.{_≡_, refl, sym, ap, _∙_, subst}
 use Prim.Native.Nat.{ℕ, zero, suc, _+_, _-_, _*_, _≤_, _<_}
 use mathlib.Core.Bool.{Bool, true, false, cond}
 use mathlib.Core.List.{List, [], _∷_, _++_, append-nil, append-assoc, flatMap}
@@ -8,17 +8,24 @@ use native.Mathlib.Omega.{arith}
 use borrow.Author.Tests.{eq-eqb, ne-eqb}
 use lib.Dec.{eqb}
 use lib.ListN.{length, length-append}
-use Rattle.numbers.specs.Numbers.{bytesOf, bytesOfAll, bound, Small}
+use Rattle.ground.specs.Tests.{allOf}
+use Rattle.ground.proofs.Bools.{and-both}
+use Rattle.ground.proofs.Choices.{cond-by}
+use Rattle.numbers.specs.Numbers.{bytesOf, bound}
 use Rattle.numbers.specs.Placed.{placed}
-use Rattle.numbers.proofs.Numerals.{small-nil, small-cons, small-append}
-use Rattle.numbers.proofs.Placing.{placed-nil}
-use Rattle.numbers.proofs.Behind.{behind, one-number, behind-one}
+use Rattle.formats.specs.Format.{number, both, seenAs}
+use Rattle.formats.specs.Putting.{Put, PutAll}
+use Rattle.formats.proofs.Sizes.{times-long}
+use Rattle.formats.proofs.Putting.{four-fits, put-number, put-last, put-none, put-one, put-more}
 use Rattle.lanes.specs.declared.said.Fault.{Fault}
+use Rattle.body.specs.Body.{faultFormat, setBytes}
+use Rattle.body.specs.Layout.{faultBytes}
 use Rattle.body.specs.Places.{kindsPlace}
+use Rattle.body.proofs.Formats.{fault-takes}
 use Rattle.faulting.specs.declared.faults.Faults.{Faults}
 use Rattle.faulting.specs.Kinds.{fault, kinds, withLanes, listed, lanesOfKind}
 use Rattle.faulting.proofs.EveryKind.{upFrom, table, every-table}
-use Rattle.key.specs.Putting.{twoOf, After, after, afterNumbers, noted, kindNumbers}
+use Rattle.key.specs.Putting.{kindsAfter}
 
 -- ---- the kinds from k on
 
@@ -69,140 +76,98 @@ count-all f count k c h =
     subst (λ (j : ℕ). count + length (withLanes (from j f)) ≡ length (listed f)) e (c .left) in
     omega (arith, w)
 
--- ---- the numbers
-
-pub length-twos : (fs : List Fault) → length (flatMap twoOf fs) ≡ 2 * length fs
-unfolding flatMap twoOf
-length-twos [] = refl
-length-twos (f ∷ fs) = let ih = length-twos fs in omega arith
-
-numbers-test : (t : Bool) (k l : ℕ) (rest : List Fault) → flatMap twoOf (cond t rest (record { kind = k; lanes = l } ∷ rest))
-    ≡ cond t [] (k ∷ l ∷ []) ++ flatMap twoOf (rest)
-unfolding flatMap twoOf
-numbers-test true k l rest = refl
-numbers-test false k l rest = refl
-
--- the numbers of a kind, and then those of the rest
-numbers-with : (k l : ℕ) (rest : List Fault)
-    → flatMap twoOf (withLanes (fault k l ∷ rest)) ≡ noted k l ++ flatMap twoOf (withLanes rest)
-unfolding noted
-numbers-with k l rest = numbers-test (eqb l 0) k l (withLanes rest)
-
--- numbers behind numbers, and the place behind them all
-after-behind : (ms ns o o₁ o₂ : List ℕ) (p q r : ℕ) → after q o₁ ≡ afterNumbers ms p o → after r o₂ ≡ afterNumbers ns q o₁
-    → after r o₂ ≡ afterNumbers (ms ++ ns) p o
-unfolding afterNumbers
-after-behind ms ns o o₁ o₂ p q r a b =
-    let l = length-append ms ns in
-    let x : q ≡ p + 4 * length ms = ap (λ (z : After). z .place) a in
-    let y : r ≡ q + 4 * length ns = ap (λ (z : After). z .place) b in
-    let k : r ≡ p + 4 * length (ms ++ ns) = omega arith in
-    ap₂ after k (behind ms ns o o₁ o₂ p q x (ap (λ (z : After). z .out) a) (ap (λ (z : After). z .out) b))
-
 -- ---- one kind, put
 
-pub no-kind : (k l at : ℕ) (o : List ℕ) → l ≡ 0 → after at o ≡ afterNumbers (noted k l) at o
-unfolding afterNumbers noted bytesOfAll flatMap
-no-kind k l at o h =
-    let z : at ≡ at + 4 * 0 = omega arith in
-    simp (eq-eqb l 0 h) (ap₂ after z (sym (placed-nil o at)))
+-- a kind that has lanes, or none
+abbrev pub one : ℕ → ℕ → List Fault
+one k l = withLanes (fault k l ∷ [])
 
-pub some-kind : (k l at : ℕ) (o o₁ o₂ : List ℕ) → (l ≡ 0 → ⊥) → o₁ ≡ placed o at (bytesOf k) → o₂ ≡ placed o₁ (at + 4) (bytesOf l)
-    → after (at + 8) o₂ ≡ afterNumbers (noted k l) at o
-unfolding afterNumbers noted
-some-kind k l at o o₁ o₂ h a b =
-    simp (ne-eqb l 0 h) (ap (after (at + 8)) (behind-one k (l ∷ []) o o₁ o₂ at (at + 4) refl a (b ∙ ap (placed o₁ (at + 4)) (one-number l))))
+kinds-with : (t : Bool) (x : Fault) (rest : List Fault) → cond t rest (x ∷ rest) ≡ cond t [] (x ∷ []) ++ rest
+kinds-with true x rest = refl
+kinds-with false x rest = refl
 
-noted-test : (t : Bool) (k l : ℕ) → length (cond t [] (k ∷ l ∷ [])) ≤ 2
-noted-test true k l = omega arith
-noted-test false k l = omega arith
+length-one : (t : Bool) (x : Fault) → length (cond t [] (x ∷ [])) ≤ 1
+length-one true x = omega arith
+length-one false x = omega arith
 
--- ---- their size
+-- the place behind fault kinds
+pub kinds-long : (fs : List Fault) → length (flatMap (faultFormat setBytes .write) fs) ≡ faultBytes setBytes * length fs
+kinds-long = times-long (fault-takes setBytes)
 
-small-test : (t : Bool) (k l : ℕ) → k < bound → l < bound → Small (cond t [] (k ∷ l ∷ []))
-small-test true k l a b = small-nil
-small-test false k l a b = small-cons k (l ∷ []) a (small-cons l [] b small-nil)
+-- a kind and its lanes, put as two numbers
+fault-put : {k l at : ℕ} {o now : List ℕ} → Put (both (number 4) (number setBytes)) (k, l) o at now → Put (faultFormat setBytes) (fault k l) o at now
+unfolding faultFormat seenAs
+fault-put p = record { room = p .room; stands = p .stands }
 
-pub small-noted : (k l : ℕ) → k < bound → l < bound → Small (noted k l)
-unfolding noted
-small-noted k l a b = small-test (eqb l 0) k l a b
+module _ (k l at : ℕ) (o : List ℕ) where
+  pub no-kind : l ≡ 0 → PutAll (faultFormat setBytes) (one k l) o at o × (at ≡ at + faultBytes setBytes * length (one k l))
+  no-kind h = simp (eq-eqb l 0 h) (put-none, omega arith)
 
-small-table : (lanes : ℕ → ℕ) → ((k : ℕ) → lanes k < bound) → (n c : ℕ) → n + c ≤ bound
-    → Small (flatMap twoOf (withLanes (table lanes (upFrom n c))))
-unfolding flatMap
-small-table lanes h n zero b = small-nil
-small-table lanes h n (suc c) b =
-    rw (numbers-with n (lanes n) (table lanes (upFrom (suc n) c)))
-    (small-append (noted n (lanes n)) _ (small-noted n (lanes n) (omega arith) (h n)) (small-table lanes h (suc n) c (omega arith)))
-
--- where the lanes of every kind are below 2^32
-pub small-kinds : (f : Faults) → ((k : ℕ) → lanesOfKind k f < bound) → Small (kindNumbers f)
-unfolding kindNumbers
-small-kinds f h =
-    subst (λ (xs : List Fault). Small (flatMap twoOf (withLanes xs))) (sym (every-table f))
-    (small-table (λ k. lanesOfKind k f) h 1 kinds (omega arith))
+  pub some-kind : {o₁ o₂ : List ℕ} → (l ≡ 0 → ⊥) → k < bound → l < bound → o₁ ≡ placed o at (bytesOf k) → o₂ ≡ placed o₁ (at + 4) (bytesOf l)
+      → PutAll (faultFormat setBytes) (one k l) o at o₂ × (at + 8 ≡ at + faultBytes setBytes * length (one k l))
+  some-kind {o₁} h hk hl a b = simp (ne-eqb l 0 h) (put-one (fault-put (put-number k at o a refl hk (put-last l (at + 4) o₁ b hl))), omega arith)
 
 -- ---- the kinds below k have been put, and the loop stands behind them
 
 pub record Kept (f : Faults) (o₀ o : List ℕ) (at k : ℕ) : Type 0 where
   pub least : 1 ≤ k
   pub most : k ≤ suc kinds
-  pub done : List ℕ
-  pub few : length done ≤ 2 * (k - 1)
-  pub small : Small done
-  pub stands : after at o ≡ afterNumbers done kindsPlace o₀
-  pub whole : done ++ flatMap twoOf (withLanes (from k f)) ≡ kindNumbers f
+  pub done : List Fault
+  pub few : length done ≤ k - 1
+  pub place : at ≡ kindsAfter (length done)
+  pub put : PutAll (faultFormat setBytes) done o₀ kindsPlace o
+  pub whole : done ++ withLanes (from k f) ≡ listed f
 
 pub kept-none : (f : Faults) (o : List ℕ) → Kept f o o kindsPlace 1
-unfolding kindNumbers noted
 kept-none f o =
     record {
       least = omega arith;
       most = omega arith;
       done = [];
       few = omega arith;
-      small = small-nil;
-      stands = no-kind 1 0 kindsPlace o refl;
-      whole = ap (λ (xs : List Fault). flatMap twoOf (withLanes xs)) (sym (every-table f));
+      place = refl;
+      put = put-none;
+      whole = ap withLanes (sym (every-table f));
     }
 
-pub kept-place : {f : Faults} {o₀ o : List ℕ} {at k : ℕ} → Kept f o₀ o at k → at ≤ kindsPlace + 8 * (k - 1)
-unfolding afterNumbers
-kept-place h = omega (arith, ap (λ (z : After). z .place) (h .stands), h .few)
-
-pub kept-next : (f : Faults) (o₀ o o₁ : List ℕ) (at at₁ k : ℕ) → Kept f o₀ o at k → k ≤ kinds
-    → after at₁ o₁ ≡ afterNumbers (noted k (lanesOfKind k f)) at o → Small (noted k (lanesOfKind k f)) → Kept f o₀ o₁ at₁ (k + 1)
-unfolding noted
-kept-next f o₀ o o₁ at at₁ k h b e s =
-    let l = lanesOfKind k f in
-    let n = noted k l in
-    let y : length n ≤ 2 = noted-test (eqb l 0) k l in
-    let w = length-append (h .done) n in
-    let d = h .few in
-    let m = h .least in
-    let rest = flatMap twoOf (withLanes (from (suc k) f)) in
+pub kept-next : (f : Faults) (o₀ o o₁ : List ℕ) (at at₁ k : ℕ) → Kept f o₀ o at k → k ≤ kinds → (l : ℕ) → l ≡ lanesOfKind k f
+    → PutAll (faultFormat setBytes) (one k l) o at o₁ → at₁ ≡ at + faultBytes setBytes * length (one k l) → Kept f o₀ o₁ at₁ (k + 1)
+kept-next f o₀ o o₁ at at₁ k h b l e p q =
+    let here = length-append (h .done) (one k l) in
+    let last = length-one (eqb l 0) (fault k l) in
+    let next : withLanes (from k f) ≡ one k l ++ withLanes (from (suc k) f) =
+    ap withLanes (from-next f k b) ∙ kinds-with (eqb (lanesOfKind k f) 0) _ _ ∙ rw (← e) refl in
     rw add-one
     (record {
       least = omega arith;
       most = omega arith;
-      done = h .done ++ n;
-      few = omega (arith, w, y, d, m);
-      small = small-append (h .done) n (h .small) s;
-      stands = after-behind (h .done) n o₀ o o₁ kindsPlace at at₁ (h .stands) e;
-      whole =
-          append-assoc (h .done) n rest
-          ∙ ap (λ (r : List ℕ). h .done ++ r) (sym (numbers-with k l (from (suc k) f)))
-          ∙ ap (λ (xs : List Fault). h .done ++ flatMap twoOf (withLanes xs)) (sym (from-next f k b))
-          ∙ h .whole;
+      done = h .done ++ one k l;
+      few = omega (arith, here, last, h .few, h .least);
+      place = omega (arith, here, h .place, q);
+      put = put-more (h .put) (omega (arith, h .place, kinds-long (h .done))) p;
+      whole = append-assoc (h .done) (one k l) (withLanes (from (suc k) f)) ∙ ap (λ (r : List Fault). h .done ++ r) (sym next) ∙ h .whole;
     })
 
 pub kept-all : (f : Faults) (o₀ o : List ℕ) (at k : ℕ) → Kept f o₀ o at k → kinds < k
-    → (after at o ≡ afterNumbers (kindNumbers f) kindsPlace o₀) × Small (kindNumbers f)
-unfolding flatMap
+    → PutAll (faultFormat setBytes) (listed f) o₀ kindsPlace o × (at ≡ kindsAfter (length (listed f)))
 kept-all f o₀ o at k h b =
     let e : k ≡ suc kinds = omega (arith, h .most) in
-    let d : h .done ≡ kindNumbers f =
-    sym (append-nil (h .done))
-    ∙ ap (λ (j : ℕ). h .done ++ flatMap twoOf (withLanes (from j f))) (sym e)
-    ∙ h .whole in
-    (h .stands ∙ ap (λ (ns : List ℕ). afterNumbers ns kindsPlace o₀) d, subst Small d (h .small))
+    let d : h .done ≡ listed f = sym (append-nil (h .done)) ∙ ap (λ (j : ℕ). h .done ++ withLanes (from j f)) (sym e) ∙ h .whole in
+    (subst (λ (fs : List Fault). PutAll (faultFormat setBytes) fs o₀ kindsPlace o) d (h .put), h .place ∙ ap (λ (fs : List Fault). kindsAfter (length fs)) d)
+
+-- ---- room for them all
+
+room-table : (lanes : ℕ → ℕ) → ((k : ℕ) → lanes k < bound) → (n c : ℕ) → n + c ≤ bound
+    → allOf (faultFormat setBytes .fits) (withLanes (table lanes (upFrom n c))) ≡ true
+unfolding allOf faultFormat seenAs both
+room-table lanes h n zero b = refl
+room-table lanes h n (suc c) b =
+    let rest = room-table lanes h (suc n) c (omega arith) in
+    cond-by (λ (fs : List Fault). allOf (faultFormat setBytes .fits) fs ≡ true) (eqb (lanes n) 0) _ _ (λ t. rest)
+    (λ t. and-both _ _ (and-both (number 4 .fits n) _ (four-fits n (omega arith)) (four-fits (lanes n) (h n))) rest)
+
+-- where the lanes of every kind are below 2^32
+pub kinds-room : (f : Faults) → ((k : ℕ) → lanesOfKind k f < bound) → allOf (faultFormat setBytes .fits) (listed f) ≡ true
+kinds-room f h =
+    subst (λ (xs : List Fault). allOf (faultFormat setBytes .fits) (withLanes xs) ≡ true) (sym (every-table f))
+    (room-table (λ k. lanesOfKind k f) h 1 kinds (omega arith))

@@ -12,7 +12,7 @@ use Rattle.wave.specs.Wave.{Wave, Preds, stateOf}
 use Rattle.wave.proofs.Laying.{length-opened, opened-laid, drop-six}
 use Rattle.key.specs.Key.{blocksOf}
 
-abbrev sixOf : Block → List ℕ
+abbrev pub sixOf : Block → List ℕ
 sixOf b = six b []
 
 sixes-append : (bs cs : List Block) → flatMap sixOf (bs ++ cs) ≡ flatMap sixOf bs ++ flatMap sixOf cs

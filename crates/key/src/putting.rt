@@ -1,4 +1,4 @@
-// Putting a body's numbers into a buffer, one behind another.
+// Putting the pieces of a body into a buffer, one behind another.
 use body::fields::COUNT_PLACE;
 use body::fields::FAULT_BYTES;
 use body::fields::KERNEL_PLACE;
@@ -14,17 +14,18 @@ use wave::state::BLOCK_NUMBERS;
 use wave::state::State;
 use wave::state::whole;
 ghost use mathlib.Core.Path.{_≡_};
-ghost use Prim.Native.Nat.{_≤_};
+ghost use mathlib.Core.Bool.{cond};
+ghost use mathlib.Core.List.{[], _∷_};
+ghost use Prim.Native.Nat.{_+_, _*_, _≤_};
 ghost use lib.Dec.{eqb};
 ghost use lib.ListN.{length};
-ghost use mathlib.Core.Bool.{cond};
-ghost use Rattle.numbers.specs.Placed.{placed};
-ghost use Rattle.numbers.specs.Numbers.{Small, bytesOfAll};
-ghost use Rattle.faulting.specs.Kinds.{listed};
-ghost use Rattle.body.specs.Layout.{mostDepth};
+ghost use Rattle.formats.specs.Putting.{Put, PutAll};
+ghost use Rattle.faulting.specs.Kinds.{fault, withLanes, listed};
+ghost use Rattle.body.specs.Body.{faultFormat, bodyFormat, setBytes};
+ghost use Rattle.body.specs.Layout.{mostDepth, faultBytes};
 ghost use Rattle.body.specs.Places.{kindsPlace};
-ghost use Rattle.key.specs.Key.{partsOf};
-ghost use Rattle.key.specs.Putting.{room, kindsEnd, after, afterNumbers, noted, kindNumbers, headNumbers, stateNumbers, Put};
+ghost use Rattle.key.specs.Key.{blocksOf, partsOf};
+ghost use Rattle.key.specs.Putting.{room, kindsAfter, kindsEnd, headFormat, stateFormat};
 
 // How many kinds these lanes make: one, or none where there are no lanes.
 fn kinds_of(lanes: Lanes) -> u32
@@ -49,7 +50,8 @@ fn count_of(f: Faults) -> u32
 // Puts a kind and its lanes, where there are any, into `out` from `at` on, and answers the place behind them.
 fn put_kind(kind: u32, lanes: Lanes, at: usize, out: &mut [u8]) -> usize
     requires { ⌜ at ≤ room ⌝ }
-    ensures { λ r. ⌜ (after r (now (out .exit)) ≡ afterNumbers (noted kind lanes) at (now (out .entry))) × Small (noted kind lanes) ⌝ }
+    ensures { λ r. ⌜ PutAll (faultFormat setBytes) (withLanes (fault kind lanes ∷ [])) (now (out .entry)) at (now (out .exit))
+        × (r ≡ at + faultBytes setBytes * length (withLanes (fault kind lanes ∷ []))) ⌝ }
 {
     if lanes == 0 {
         return at;
@@ -61,7 +63,7 @@ fn put_kind(kind: u32, lanes: Lanes, at: usize, out: &mut [u8]) -> usize
 
 // Puts each kind that has lanes, in rising order, into `out` behind their count, and answers the place behind the last.
 fn put_kinds(f: Faults, out: &mut [u8]) -> usize
-    ensures { λ r. ⌜ (after r (now (out .exit)) ≡ afterNumbers (kindNumbers f) kindsPlace (now (out .entry))) × Small (kindNumbers f) ⌝ }
+    ensures { λ r. ⌜ PutAll (faultFormat setBytes) (listed f) (now (out .entry)) kindsPlace (now (out .exit)) × (r ≡ kindsAfter (length (listed f))) ⌝ }
 {
     let mut at = KINDS_PLACE;
     let mut kind: usize = 1;
@@ -74,7 +76,7 @@ fn put_kinds(f: Faults, out: &mut [u8]) -> usize
 
 // Puts kernel number, place and fault kinds, with their count, at the front of `out`, and answers the place behind them.
 fn put_head(kernel: u32, place: u32, f: Faults, out: &mut [u8]) -> usize
-    ensures { λ r. ⌜ (after r (now (out .exit)) ≡ afterNumbers (headNumbers kernel place f) 0 (now (out .entry))) × Small (headNumbers kernel place f) ⌝ }
+    ensures { λ r. ⌜ Put headFormat (kernel, (place, listed f)) (now (out .entry)) 0 (now (out .exit)) × (r ≡ kindsAfter (length (listed f))) ⌝ }
 {
     put(out, KERNEL_PLACE, kernel);
     put(out, PLACE_PLACE, place);
@@ -85,7 +87,7 @@ fn put_head(kernel: u32, place: u32, f: Faults, out: &mut [u8]) -> usize
 // Puts the active and the halted lanes, the depth and the open blocks of a state into `out` from `at` on.
 fn put_state(state: State, at: usize, out: &mut [u8])
     requires { ⌜ (state .hot .depth ≤ mostDepth) × (at ≤ kindsEnd) ⌝ }
-    ensures { λ _. ⌜ (now (out .exit) ≡ placed (now (out .entry)) at (bytesOfAll (stateNumbers state))) × Small (stateNumbers state) ⌝ }
+    ensures { λ _. ⌜ Put stateFormat (state .hot .active, (state .hot .halted, blocksOf state)) (now (out .entry)) at (now (out .exit)) ⌝ }
 {
     let hot = state.hot;
     let blocks = state.blocks;
@@ -100,7 +102,7 @@ fn put_state(state: State, at: usize, out: &mut [u8])
 // Puts the body of a fault at the front of `out`, as far as it fits.
 pub(crate) fn put_body(kernel: u32, f: Faults, state: State, out: &mut [u8])
     requires { ⌜ state .hot .depth ≤ mostDepth ⌝ }
-    ensures { λ _. ⌜ Put (partsOf kernel f state) (now (out .entry)) (now (out .exit)) ⌝ }
+    ensures { λ _. ⌜ Put (bodyFormat setBytes) (partsOf kernel f state) (now (out .entry)) 0 (now (out .exit)) ⌝ }
 {
     let at = put_head(kernel, state.hot.place, f, out);
     put_state(state, at, out);

@@ -1,13 +1,11 @@
 -- The invariant: the kinds below `kind` stand one behind another, and the loop stands behind them.
-use mathlib.Core.Path.{_≡_, refl, ap, _∙_, subst}
-use Prim.Native.Nat.{ℕ, suc, _-_}
+use mathlib.Core.Path.{_≡_, refl, _∙_}
+use Prim.Native.Nat.{suc, _-_}
 use native.Mathlib.Omega.{arith}
 use lib.ListN.{length}
 use borrow.Author.Needs.{needs}
-use Rattle.numbers.specs.Numbers.{Small}
 use Rattle.faulting.specs.Kinds.{kinds}
-use Rattle.key.specs.Putting.{afterNumbers, noted}
-use Rattle.key.proofs.Kinding.{Kept, kept-none, kept-place, kept-next, kept-all}
+use Rattle.key.proofs.Kinding.{Kept, kept-none, kept-next, kept-all}
 use Rattle.key.proofs.putting.put_kinds.Statement.{statement}
 use Rattle.key.proofs.putting.put_kinds.Tie as tie
 
@@ -23,7 +21,8 @@ loop-holds c = (refl, kept-none _ _)
 put-kind-requires : tie.Need-put-kind-requires Inv-loop μ-loop
 put-kind-requires c κs =
     let t = c .before .before in
-    omega (arith, t .loop-test .taken, kept-place (t .before .loop .inv .1))
+    let h = t .before .loop .inv .1 in
+    omega (arith, t .loop-test .taken, h .place, h .few)
 
 loop-again : tie.Need-loop-again Inv-loop μ-loop
 loop-again c =
@@ -32,9 +31,8 @@ loop-again c =
     let t = lanes .before in
     let h = t .before .loop in (
       put .put-kind .kept .1 .1 .1 .0 ∙ h .inv .0,
-      kept-next _ _ _ _ _ _ (h .kind) (h .inv .1) (omega (arith, t .loop-test .taken))
-          (put .put-kind .ensures .0 ∙ ap (λ (l : ℕ). afterNumbers (noted (h .kind) l) (h .at) (h .out)) (lanes .lanes-of-kind .ensures))
-          (subst (λ (l : ℕ). Small (noted (h .kind) l)) (lanes .lanes-of-kind .ensures) (put .put-kind .ensures .1)),
+      kept-next _ _ _ _ _ _ (h .kind) (h .inv .1) (omega (arith, t .loop-test .taken)) _ (lanes .lanes-of-kind .ensures)
+          (put .put-kind .ensures .0) (put .put-kind .ensures .1),
     )
 
 returns : tie.Need-returns Inv-loop μ-loop

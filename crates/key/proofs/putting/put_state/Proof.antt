@@ -1,11 +1,13 @@
--- The sets, the depth and the blocks stand one behind another: `state-stands`. The blocks are as many first numbers of the state's array.
-use mathlib.Core.Path.{_≡_, sym}
+-- The sets, the depth and the blocks stand one behind another. The blocks are as many first numbers of the state's array.
+use mathlib.Core.Path.{_≡_, refl, sym}
 use Prim.Native.Nat.{_*_}
 use native.Mathlib.Omega.{arith}
 use lib.ListN.{length, take}
 use lib.Seq.{length-take-le}
 use Rattle.wave.specs.Layout.{blockNumbers}
-use Rattle.key.proofs.Bodies.{state-stands, state-small}
+use Rattle.formats.proofs.Putting.{put-number, put-counted}
+use Rattle.key.proofs.Numbers.{blocks-put}
+use Rattle.key.proofs.Paths.{length-blocks}
 use borrow.Author.Needs.{needs}
 use Rattle.key.proofs.putting.put_state.Statement.{statement}
 use Rattle.key.proofs.putting.put_state.Tie as tie
@@ -34,10 +36,10 @@ returns c =
     let one = second .before .before .before .before in
     let w = one .before .before in
     let s = start w .args .state in
-    let low = start w .pre .0 in (
-      state-stands s low (w .whole .ensures) _ _ _ _ _ _ (one .put .ensures) (second .put2 .ensures) (third .put3 .ensures) (blocks .0),
-      state-small s low (w .whole .ensures) (omega (arith, sets .1 .0)) (omega (arith, sets .1 .1 .0)) (blocks .1),
-    )
+    put-number _ _ _ (one .put .ensures) refl (omega (arith, sets .1 .0))
+    (put-number _ _ _ (second .put2 .ensures) (omega arith) (omega (arith, sets .1 .1 .0))
+    (put-counted _ _ _ (third .put3 .ensures) (omega arith) (sym (length-blocks s)) (omega (arith, start w .pre .0))
+    (blocks-put s (omega (arith, w .whole .ensures, start w .pre .0)) (blocks .0) (blocks .1))))
 
 pub put-state-spec : {M : Type 1} → statement M
 put-state-spec = tie.close (tie.spec
