@@ -1,5 +1,5 @@
 // From a path to the words of a capture.
-use crate::replaying::replay_counted;
+use crate::replaying::replay_read;
 use crate::rooms::CODE_ROOM;
 use crate::rooms::REGISTER_ROOM;
 use crate::rooms::SMALL_DEVICE;
@@ -10,11 +10,9 @@ use crate::rooms::large_file;
 use crate::rooms::large_local;
 use crate::rooms::small_device;
 use crate::rooms::small_file;
-use crate::telling::say_unreadable;
 use captures::COUNTS_PLACE;
 use captures::DEVICE;
 use captures::LOCAL;
-use captures::answer::ReadAnswer;
 use files::Input;
 use files::read_whole;
 use numbers::get;
@@ -26,8 +24,7 @@ const DEVICE_COUNT: usize = COUNTS_PLACE + 4 * DEVICE;
 
 const LOCAL_COUNT: usize = COUNTS_PLACE + 4 * LOCAL;
 
-// Replays the capture in the first bytes of `file`, which is room for what is written after, with this room for its words; or says what it
-// breaks that is none.
+// Replays the capture in the first bytes of `file`, which is room for what is written after, with this room for its words.
 fn replay_in(
     path: &[u8],
     sliced: bool,
@@ -42,20 +39,8 @@ fn replay_in(
     if file.len() < size {
         return;
     }
-    match captures::read(&file[..size], code, regs, device, local, state) {
-        ReadAnswer::Unreadable { rule, place } => say_unreadable(path, rule, place),
-        ReadAnswer::Read { head, counts } => replay_counted(
-            head,
-            counts,
-            sliced,
-            code,
-            regs,
-            device,
-            local,
-            state,
-            file,
-        ),
-    }
+    let read = captures::read(&file[..size], code, regs, device, local, state);
+    replay_read(path, sliced, read, code, regs, device, local, state, file);
 }
 
 // The same in the small rooms.
@@ -78,7 +63,8 @@ fn replay_small(path: &[u8], sliced: bool, size: usize, file: &mut [u8]) {
     );
 }
 
-// The same in the large rooms.
+// The same in the large rooms. All five stand here: were the smaller ones made in `replay_in`, this would be small enough for the compiler to
+// make it part of its caller, and the large rooms would be on the stack of every run.
 fn replay_large(path: &[u8], sliced: bool, size: usize, file: &mut [u8]) {
     let mut code = [0u32; CODE_ROOM];
     let mut regs = [0u32; REGISTER_ROOM];

@@ -5,10 +5,11 @@ use crate::keeping::save_as;
 use crate::report::put_key;
 use crate::report::put_report;
 use crate::running::run;
+use crate::telling::say_unreadable;
 use crate::text::write_front;
 use body::LONGEST;
-use captures::answer::Counts;
 use captures::answer::Head;
+use captures::answer::ReadAnswer;
 use key::answer::KeyAnswer;
 use key::write_key;
 use libc::STDOUT_FILENO;
@@ -91,11 +92,11 @@ fn replay_words(
     tell(head.kernel, answer, code);
 }
 
-// Replays the words that a capture has of each buffer's.
-pub(crate) fn replay_counted(
-    head: Head,
-    counts: Counts,
+// Replays what was read of a capture, the words that it has of each buffer's; or says what it breaks that is none.
+pub(crate) fn replay_read(
+    path: &[u8],
     sliced: bool,
+    read: ReadAnswer,
     code: &[u32],
     regs: &mut [u32],
     device: &mut [u32],
@@ -103,19 +104,24 @@ pub(crate) fn replay_counted(
     state: &[u32],
     file: &mut [u8],
 ) {
-    let c = smaller(counts.code, code.len());
-    let r = smaller(counts.registers, regs.len());
-    let d = smaller(counts.device, device.len());
-    let l = smaller(counts.local, local.len());
-    let s = smaller(counts.state, state.len());
-    replay_words(
-        head,
-        sliced,
-        &code[..c],
-        &mut regs[..r],
-        &mut device[..d],
-        &mut local[..l],
-        &state[..s],
-        file,
-    );
+    match read {
+        ReadAnswer::Unreadable { rule, place } => say_unreadable(path, rule, place),
+        ReadAnswer::Read { head, counts } => {
+            let c = smaller(counts.code, code.len());
+            let r = smaller(counts.registers, regs.len());
+            let d = smaller(counts.device, device.len());
+            let l = smaller(counts.local, local.len());
+            let s = smaller(counts.state, state.len());
+            replay_words(
+                head,
+                sliced,
+                &code[..c],
+                &mut regs[..r],
+                &mut device[..d],
+                &mut local[..l],
+                &state[..s],
+                file,
+            );
+        }
+    }
 }

@@ -13,15 +13,13 @@ use naming::TEXT_ROOM;
 use naming::TextAnswer;
 use naming::write_text;
 use refusals::REGISTER;
+use refusals::Refusal;
 use refusals::UNCLOSED;
 use stepping::answers::Outcome;
 use stepping::answers::Replayed;
-use wave::state::AGAIN;
-use wave::state::ASIDE;
 use wave::state::BLOCK_NUMBERS;
 use wave::state::ENTERED;
 use wave::state::Hot;
-use wave::state::LEFT;
 use wave::state::OPENER;
 use wave::state::State;
 use wave::state::depth_of;
@@ -84,55 +82,47 @@ fn put_kinds(out: &mut [u8], at: usize, f: Faults) -> usize {
     q
 }
 
-// A word and a number, or a space and a set of lanes.
+// A word and a number.
 fn put_count(out: &mut [u8], at: usize, word: &[u8], n: u32) -> usize {
     let q = put(out, at, word);
     put_decimal(out, q, n as usize)
 }
 
-fn put_next(out: &mut [u8], at: usize, lanes: Lanes) -> usize {
-    let q = put(out, at, b" ");
-    put_lanes(out, q, lanes)
+// Sets of lanes, a space before each.
+fn put_each(out: &mut [u8], at: usize, sets: &[Lanes]) -> usize {
+    let mut q = at;
+    let mut k: usize = 0;
+    while k < sets.len() {
+        q = put(out, q, b" ");
+        q = put_lanes(out, q, sets[k]);
+        k += 1;
+    }
+    q
 }
 
 // The line of an open block: its part, its opener, and the lanes entered, aside, again and left.
-fn put_block(
-    out: &mut [u8],
-    at: usize,
-    part: u32,
-    opener: u32,
-    entered: Lanes,
-    aside: Lanes,
-    again: Lanes,
-    left: Lanes,
-) -> usize {
-    let q = put_count(out, at, b"block ", part);
-    let q = put_count(out, q, b" ", opener);
-    let q = put_next(out, q, entered);
-    let q = put_next(out, q, aside);
-    let q = put_next(out, q, again);
-    put_set(out, q, b" ", left)
+fn put_block(out: &mut [u8], at: usize, block: &[u32]) -> usize {
+    if block.len() < ENTERED {
+        return at;
+    }
+    let q = put_count(out, at, b"block ", block[0]);
+    let q = put_count(out, q, b" ", block[OPENER]);
+    let q = put_each(out, q, &block[ENTERED..]);
+    put(out, q, b"\n")
 }
 
 // The open blocks, outermost first, at most as many as a state has room for.
 fn put_blocks(out: &mut [u8], at: usize, state: State) -> usize {
     let blocks = state.blocks;
     whole(&blocks);
-    let open = BLOCK_NUMBERS * (depth_of(state.hot.depth) as usize);
+    let depth = depth_of(state.hot.depth) as usize;
     let mut q = at;
     let mut k: usize = 0;
-    while k + LEFT < open {
-        q = put_block(
-            out,
-            q,
-            blocks[k],
-            blocks[k + OPENER],
-            blocks[k + ENTERED],
-            blocks[k + ASIDE],
-            blocks[k + AGAIN],
-            blocks[k + LEFT],
-        );
-        k += BLOCK_NUMBERS;
+    while k < depth {
+        let first = BLOCK_NUMBERS * k;
+        let end = first + BLOCK_NUMBERS;
+        q = put_block(out, q, &blocks[first..end]);
+        k += 1;
     }
     q
 }
@@ -187,17 +177,19 @@ fn put_sets(out: &mut [u8], at: usize, h: Hot) -> usize {
     put_number(out, q, b"depth ", h.depth as usize)
 }
 
+// The line of a refusal.
+fn put_refused(out: &mut [u8], at: usize, refusal: Refusal) -> usize {
+    let q = put_count(out, at, b"outcome refused ", refusal.number);
+    put_number(out, q, b" place ", refusal.place)
+}
+
 // The outcome's line.
 fn put_outcome(out: &mut [u8], at: usize, outcome: Outcome) -> usize {
     match outcome {
         Outcome::Ended => put(out, at, b"outcome ended\n"),
         Outcome::OutOfBudget => put(out, at, b"outcome out of budget\n"),
         Outcome::Fault(f) => put(out, at, b"outcome fault\n"),
-        Outcome::Refused(refusal) => {
-            let q = put(out, at, b"outcome refused ");
-            let q = put_decimal(out, q, refusal.number as usize);
-            put_number(out, q, b" place ", refusal.place)
-        }
+        Outcome::Refused(refusal) => put_refused(out, at, refusal),
     }
 }
 

@@ -164,21 +164,19 @@ pub(crate) fn run(
         answered r (registersIn settings (now (regs .exit))) (now (device .exit)) (now (local .exit))
         ≡ startOf launched settings state (now (code .entry)) (registersIn settings (now (regs .entry))) (now (device .entry)) (now (local .entry)) ⌝ }
 {
-    if MOST_STEPS < settings.budget {
-        return start(settings, launched, state, code, regs, device, local);
+    let slices = sliced & (settings.budget <= MOST_STEPS);
+    if slices {
+        return run_in_slices(
+            settings,
+            launched,
+            state,
+            head,
+            code,
+            regs,
+            device,
+            local,
+            file,
+        );
     }
-    if !sliced {
-        return start(settings, launched, state, code, regs, device, local);
-    }
-    run_in_slices(
-        settings,
-        launched,
-        state,
-        head,
-        code,
-        regs,
-        device,
-        local,
-        file,
-    )
+    start(settings, launched, state, code, regs, device, local)
 }

@@ -11,7 +11,5 @@ slice-aggregate-read c = sym (length-take-le _ _ (omega (arith, c .before .if1 .
 
 pub replay-in-spec : {M : Type 1} → statement M
 replay-in-spec = tie.close (tie.spec
-    (λ c. search needs) (λ c. search needs) slice-aggregate-read (λ c κs. search needs) (λ c. search needs) (λ c κs. search needs)
-    (λ c. search needs) (λ c κs. search needs) (λ c. search needs) (λ c. search needs) (λ c. search needs) (λ c. search needs)
-    (λ c. search needs) (λ c. search needs) (λ c. search needs) (λ c. search needs) (λ c. search needs) (λ c. search needs)
-    (λ c. search needs) (λ c. search needs) (λ c. search needs) (λ c. search needs))
+    (λ c. search needs) (λ c. search needs) slice-aggregate-read (λ c κs. search needs) (λ c κs. search needs) (λ c. search needs)
+    (λ c. search needs) (λ c. search needs) (λ c. search needs) (λ c. search needs) (λ c. search needs) (λ c. search needs))
