@@ -14,7 +14,8 @@ use Rattle.blocks.specs.declared.structure.Checked.the-variants.{Refused
 use Rattle.blocks.specs.declared.places.Stack.{Stack}
 use Rattle.blocks.specs.declared.places.Moved.{Moved}
 use Rattle.blocks.specs.Code.{Code}
-use Rattle.blocks.specs.Open.{nesting, Part, Open, open-at}
+use Rattle.blocks.specs.Open.{Part, Open, open-at}
+use Rattle.lanes.specs.Blocks.{nesting}
 use Rattle.blocks.specs.Scan.{Next, over, go, ended, react, step}
 use Rattle.blocks.specs.Rules.{turnOf}
 use Rattle.blocks.specs.Levels.{around, InLevel}

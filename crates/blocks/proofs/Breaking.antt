@@ -17,7 +17,8 @@ use Rattle.blocks.specs.declared.item.Reading.{Reading}
 use Rattle.blocks.specs.declared.rules.Inside.{Inside}
 use Rattle.blocks.specs.declared.structure.Checked.the-variants.{Refused}
 use Rattle.blocks.specs.Code.{Code, codeOf}
-use Rattle.blocks.specs.Open.{nesting, Part, before, after, looping, Open, open-at, inLoop}
+use Rattle.blocks.specs.Open.{Part, before, after, looping, Open, open-at, inLoop}
+use Rattle.lanes.specs.Blocks.{nesting}
 use Rattle.blocks.specs.Scan.{Next, over, go, stray, ended, react, step, carry, run, checkOf}
 use Rattle.blocks.specs.Nesting.{innermost}
 use Rattle.blocks.specs.Nesting.{nothing, Opened, outside, Broken, at-words, at-instruction, at-end}

@@ -12,7 +12,8 @@ use Rattle.blocks.specs.declared.rules.Turn.the-variants.{Go, Close, Ent
 use Rattle.blocks.specs.declared.structure.LevelEnd.{LevelEnd}
 use Rattle.blocks.specs.declared.structure.Checked.the-variants.{Fine, Refused}
 use Rattle.blocks.specs.Code.{Code}
-use Rattle.blocks.specs.Open.{nesting, Open, open-at, inLoop}
+use Rattle.blocks.specs.Open.{Open, open-at, inLoop}
+use Rattle.lanes.specs.Blocks.{nesting}
 use Rattle.blocks.specs.Scan.{over, go, ended, react, run, checkOf}
 use Rattle.blocks.specs.Rules.{turnOf}
 use Rattle.blocks.specs.Levels.{around, InLevel, follows, LevelSays}

@@ -11,7 +11,8 @@ use Rattle.refusals.specs.Table.{Rule, broken}
 use Rattle.blocks.specs.declared.rules.Inside.{Inside}
 use Rattle.blocks.specs.declared.structure.Checked.the-variants.{Fine, Refused}
 use Rattle.blocks.specs.declared.places.Stack.{Stack}
-use Rattle.blocks.specs.Open.{nesting, Part, before, after, looping, Open, open-at, inLoop, partNumber, partNumberOf, openerOf}
+use Rattle.blocks.specs.Open.{Part, before, after, looping, Open, open-at, inLoop, partNumber, partNumberOf, openerOf}
+use Rattle.lanes.specs.Blocks.{nesting}
 use Rattle.blocks.specs.Scan.{ended}
 use Rattle.blocks.specs.OpenAt.{oneIfLoop, loops, filled, stackOf}
 use Rattle.blocks.specs.Levels.{around}

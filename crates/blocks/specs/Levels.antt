@@ -9,7 +9,8 @@ use Rattle.blocks.specs.declared.rules.Inside.{Inside}
 use Rattle.blocks.specs.declared.structure.LevelEnd.{LevelEnd}
 use Rattle.blocks.specs.declared.structure.Checked.{Checked}
 use Rattle.blocks.specs.Code.{Code}
-use Rattle.blocks.specs.Open.{nesting, Open, open-at, inLoop}
+use Rattle.blocks.specs.Open.{Open, open-at, inLoop}
+use Rattle.lanes.specs.Blocks.{nesting}
 use Rattle.blocks.specs.Scan.{ended, run}
 use Rattle.blocks.specs.Nesting.{innermost}
 

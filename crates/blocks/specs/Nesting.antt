@@ -14,7 +14,8 @@ use Rattle.blocks.specs.declared.item.Item.{Item}
 use Rattle.blocks.specs.declared.item.Reading.{Reading}
 use Rattle.blocks.specs.declared.rules.Inside.{Inside}
 use Rattle.blocks.specs.Item.{itemOf}
-use Rattle.blocks.specs.Open.{nesting, Part, before, after, looping, Open, open-at, inLoop}
+use Rattle.blocks.specs.Open.{Part, before, after, looping, Open, open-at, inLoop}
+use Rattle.lanes.specs.Blocks.{nesting}
 
 -- an instruction of the code, with R registers, and what it is to the blocks: its words stand at the place, and none of its registers is R or more
 abbrev pub Has : List ℕ → Reading → ℕ → Item → Type 0

@@ -8,7 +8,8 @@ use lib.Dec.{eqb}
 use Rattle.blocks.specs.declared.places.Stack.{Stack}
 use Rattle.blocks.specs.declared.places.OpenAt.{OpenAt}
 use Rattle.blocks.specs.Code.{Code}
-use Rattle.blocks.specs.Open.{nesting, Part, before, after, looping, Open, open-at, partNumberOf, openerOf}
+use Rattle.blocks.specs.Open.{Part, before, after, looping, Open, open-at, partNumberOf, openerOf}
+use Rattle.lanes.specs.Blocks.{nesting}
 use Rattle.blocks.specs.Scan.{carry, step}
 
 pub data Found : Type 0 where

@@ -9,7 +9,8 @@ use lib.Dec.{eqb}
 use Rattle.blocks.specs.declared.rules.Inside.{Inside}
 use Rattle.blocks.specs.declared.places.Stack.{Stack}
 use Rattle.blocks.specs.declared.places.Moved.{Moved}
-use Rattle.blocks.specs.Open.{nesting, Part, before, after, looping, Open, partNumber, partNumberOf, openerOf}
+use Rattle.blocks.specs.Open.{Part, before, after, looping, Open, partNumber, partNumberOf, openerOf}
+use Rattle.lanes.specs.Blocks.{nesting}
 use Rattle.blocks.specs.Scan.{Next, over, go, ended}
 use Rattle.blocks.specs.OpenAt.{loops, filled}
 use Rattle.blocks.specs.Levels.{around}

@@ -4,12 +4,16 @@ use crate::item::Reading;
 use crate::rules;
 use crate::rules::Inside;
 use crate::rules::Turn;
-use crate::structure::NESTING;
+use lanes::said::AFTER_ELSE;
+use lanes::said::BEFORE_ELSE;
+use lanes::said::DEEPEST;
+use lanes::said::LOOP;
 ghost use mathlib.Core.Path.{_≡_};
 ghost use mathlib.Core.List.{List, [], _∷_};
 ghost use Prim.Native.Nat.{_≤_, _<_};
 ghost use Rattle.blocks.specs.Code.{codeOf};
-ghost use Rattle.blocks.specs.Open.{nesting, Open, open-at};
+ghost use Rattle.blocks.specs.Open.{Open, open-at};
+ghost use Rattle.lanes.specs.Blocks.{nesting};
 ghost use Rattle.blocks.specs.Scan.{step};
 ghost use Rattle.blocks.specs.OpenAt.{nowhere, openAt, shown};
 ghost use Rattle.blocks.specs.Levels.{around};
@@ -20,8 +24,8 @@ ghost use Rattle.blocks.specs.Stacks.{Holds, Turned, Advances, partOf, i
 pub struct Stack {
     pub depth: usize,
     pub loops: usize,
-    pub parts: [u32; NESTING],
-    pub openers: [usize; NESTING],
+    pub parts: [u32; DEEPEST],
+    pub openers: [usize; DEEPEST],
 }
 
 // Whether the place is an instruction's first word or the end, and the blocks that are open there (none where it is neither).
@@ -35,10 +39,10 @@ fn number(inside: Inside) -> u32
     ensures { λ r. ⌜ r ≡ insideNumber inside ⌝ }
 {
     match inside {
-        Inside::Nothing => 1,
-        Inside::Before => 1,
-        Inside::After => 2,
-        Inside::Loop => 3,
+        Inside::Nothing => BEFORE_ELSE,
+        Inside::Before => BEFORE_ELSE,
+        Inside::After => AFTER_ELSE,
+        Inside::Loop => LOOP,
     }
 }
 
@@ -47,9 +51,9 @@ fn inside_from(number: u32) -> Inside
     ensures { λ r. ⌜ r ≡ insideFrom number ⌝ }
 {
     match number {
-        1 => Inside::Before,
-        2 => Inside::After,
-        3 => Inside::Loop,
+        BEFORE_ELSE => Inside::Before,
+        AFTER_ELSE => Inside::After,
+        LOOP => Inside::Loop,
         _ => Inside::Nothing,
     }
 }
@@ -61,8 +65,8 @@ fn empty() -> Stack
     Stack {
         depth: 0,
         loops: 0,
-        parts: [0u32; NESTING],
-        openers: [0usize; NESTING],
+        parts: [0u32; DEEPEST],
+        openers: [0usize; DEEPEST],
     }
 }
 
@@ -75,7 +79,7 @@ fn inner(s: Stack) -> Inside
         return Inside::Nothing;
     }
     let d = depth - 1;
-    if d < NESTING {
+    if d < DEEPEST {
         let n = s.parts[d];
         return inside_from(n);
     }
@@ -93,7 +97,7 @@ fn pushed(s: Stack, inside: Inside, at: usize) -> Stack
     r.parts[d] = n;
     r.openers[d] = at;
     r.depth = d + 1;
-    if n == 3 {
+    if n == LOOP {
         let l = s.loops;
         r.loops = l + 1;
     }
@@ -116,7 +120,7 @@ fn popped(s: Stack) -> Stack
     r.openers[d] = 0;
     r.depth = d;
     let l = s.loops;
-    if n == 3 {
+    if n == LOOP {
         if 0 < l {
             r.loops = l - 1;
         }
@@ -163,7 +167,7 @@ fn advance(code: &[u32], reading: Reading, at: usize, s: Stack) -> Moved
     let part = inner(s);
     let loops = s.loops;
     let depth = s.depth;
-    let room = NESTING - depth;
+    let room = DEEPEST - depth;
     let turn = rules::judge(item, at, room, part, 0 < loops);
     match turn {
         Turn::Go(width, next) => {

@@ -15,7 +15,8 @@ use Rattle.lanes.specs.Sets.{first, widest}
 use Rattle.blocks.specs.declared.item.Reading.{Reading}
 use Rattle.blocks.specs.declared.places.OpenAt.{OpenAt}
 use Rattle.blocks.specs.Code.{codeOf}
-use Rattle.blocks.specs.Open.{nesting, Open, partNumberOf, openerOf}
+use Rattle.blocks.specs.Open.{Open, partNumberOf, openerOf}
+use Rattle.lanes.specs.Blocks.{nesting}
 use Rattle.blocks.specs.OpenAt.{Found, nowhere, there, openAt, shown, filled}
 use Rattle.blocks.proofs.Widths.{code-fits}
 use Rattle.blocks.proofs.Openers.{at-most}

@@ -16,7 +16,7 @@ use Rattle.blocks.proofs.Widths.{code-fits}
 use Rattle.blocks.proofs.Openers.{EachOpened, each-opened}
 use Rattle.lanes.specs.declared.said.Block.{Block}
 use Rattle.wave.specs.Wave.{Wave, Preds}
-use Rattle.wave.specs.Layout.{beforeElse, loopPart}
+use Rattle.lanes.specs.Blocks.{beforeElse, loopPart}
 use Rattle.wave.specs.Rules.{isLoop}
 use Rattle.fits.specs.Fits.{Same, OpenThere, Quiet, WaveFits}
 use Rattle.fits.proofs.AtLane.{FitsAt, fits-lanes}

@@ -13,7 +13,8 @@ use Rattle.words.specs.Rules.{Stands}
 use Rattle.words.proofs.Standing.{stood}
 use Rattle.blocks.specs.declared.item.Reading.{Reading}
 use Rattle.blocks.specs.Code.{codeOf}
-use Rattle.blocks.specs.Open.{nesting, Open}
+use Rattle.blocks.specs.Open.{Open}
+use Rattle.lanes.specs.Blocks.{nesting}
 use Rattle.blocks.specs.OpenAt.{Found, nowhere, there, openAt}
 use Rattle.blocks.specs.Nesting.{Nested}
 use Rattle.blocks.proofs.Widths.{code-fits}

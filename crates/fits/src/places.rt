@@ -10,7 +10,7 @@ use wave::state::depth_of;
 ghost use mathlib.Core.Path.{_≡_};
 ghost use Prim.Native.Nat.{_≤_, _<_};
 ghost use Rattle.blocks.specs.Code.{codeOf};
-ghost use Rattle.blocks.specs.Open.{nesting};
+ghost use Rattle.lanes.specs.Blocks.{nesting};
 ghost use Rattle.blocks.specs.OpenAt.{openAt};
 ghost use Rattle.wave.specs.Wave.{waveOf};
 ghost use Rattle.fits.specs.FitsTest.{placeTest, sameBlock, sameBlocks};

@@ -15,7 +15,7 @@ use Rattle.instructions.specs.declared.instr.ControlOp.the-variants.{If, Else, 
 use Rattle.words.proofs.Fetches.{control-is}
 use Rattle.wave.specs.declared.state.Hot.{Hot}
 use Rattle.wave.specs.declared.rules.Stepped.{Stepped}
-use Rattle.blocks.specs.Open.{nesting}
+use Rattle.lanes.specs.Blocks.{nesting}
 use Rattle.wave.specs.Wave.{Wave, Preds, waveOf, predsOf, hotOf}
 use Rattle.wave.specs.Rules.{executingOf, onwardBy, onward, barred}
 use Rattle.wave.specs.Layout.{pathNumbers}

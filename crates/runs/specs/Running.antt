@@ -14,7 +14,7 @@ use Rattle.words.specs.Layout.{wordsOf}
 use Rattle.words.specs.Reading.{readAt}
 use Rattle.words.specs.Rules.{Stands}
 use Rattle.words.specs.Fetching.{counted, fetchAt}
-use Rattle.blocks.specs.Open.{nesting}
+use Rattle.lanes.specs.Blocks.{nesting}
 use Rattle.instructions.specs.Registers.{Past}
 use Rattle.wave.specs.Rules.{onBy}
 use Rattle.wave.specs.Ready.{Ready}

@@ -14,8 +14,8 @@ use Rattle.lanes.specs.Sets.{without}
 use Rattle.lanes.specs.declared.said.Block.{Block}
 use Rattle.wave.specs.declared.state.Hot.{Hot}
 use Rattle.wave.specs.declared.rules.Stepped.{Stepped}
-use Rattle.blocks.specs.Open.{nesting}
-use Rattle.wave.specs.Layout.{pathNumbers, blockNumbers, afterElse, laid, blockAt, opened, put, over}
+use Rattle.lanes.specs.Blocks.{nesting, afterElse}
+use Rattle.wave.specs.Layout.{pathNumbers, blockNumbers, laid, blockAt, opened, put, over}
 use Rattle.wave.specs.Wave.{Wave, waveOf, predsOf, hotOf, Held, held, Does}
 use Rattle.wave.specs.Rules.{
   onBy,

@@ -16,7 +16,7 @@ use Rattle.instructions.specs.declared.instr.ControlOp.the-variants.{If, Else, 
 use Rattle.lanes.specs.declared.said.Block.{Block}
 use Rattle.wave.specs.declared.state.Hot.{Hot}
 use Rattle.wave.specs.declared.rules.Stepped.{Stepped}
-use Rattle.blocks.specs.Open.{nesting}
+use Rattle.lanes.specs.Blocks.{nesting}
 use Rattle.wave.specs.Layout.{pathNumbers, over}
 use Rattle.wave.specs.Wave.{Wave, Preds, hotOf, waveOf, predsOf, stateOf, waveIn}
 use Rattle.wave.specs.Rules.{onward, opens, elseOn, endifOn, endloopOn, barred, broken, continued}

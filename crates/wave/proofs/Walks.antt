@@ -10,7 +10,7 @@ use lib.ListN.{length, getD, set, drop}
 use lib.Seq.{getD-set-other, drop-set-add, set-out}
 use lib.Bits.{bitOr}
 use Rattle.lanes.specs.declared.said.Block.{Block}
-use Rattle.blocks.specs.Open.{nesting}
+use Rattle.lanes.specs.Blocks.{nesting}
 use Rattle.wave.specs.Layout.{blockNumbers, pathNumbers, six, laid, blockAt, opened, over}
 use Rattle.wave.specs.Rules.{leave, toLoop, isLoop}
 use Rattle.wave.specs.Search.{loopAt, same, Joins}

@@ -2,7 +2,7 @@
 use mathlib.Core.List.{List, [], _∷_}
 use Prim.Native.Nat.{ℕ, zero, suc, _+_, _-_, _*_}
 use lib.ListN.{length, replicate, getD, set, drop}
-use Rattle.blocks.specs.Open.{nesting, before, after, looping, partNumber}
+use Rattle.lanes.specs.Blocks.{nesting}
 use Rattle.lanes.specs.declared.said.Block.{Block}
 
 -- the numbers of a block, and of as many blocks as there is room for
@@ -11,16 +11,6 @@ blockNumbers = 6
 
 abbrev pub pathNumbers : ℕ
 pathNumbers = blockNumbers * nesting
-
--- a block's part: 1 before ELSE, 2 after, 3 loop
-abbrev pub beforeElse : ℕ
-beforeElse = partNumber before
-
-abbrev pub afterElse : ℕ
-afterElse = partNumber after
-
-abbrev pub loopPart : ℕ
-loopPart = partNumber looping
 
 -- the six numbers of a block, and then the rest
 abbrev pub six : Block → List ℕ → List ℕ

@@ -8,8 +8,7 @@ use Rattle.instructions.specs.declared.instr.ControlOp.{ControlOp}
 use Rattle.instructions.specs.declared.instr.ControlOp.the-variants.{If, Else, Endif, Loop, Break, Continue, Endloop, Halt, Barrier, Nop}
 use Rattle.lanes.specs.Sets.{without}
 use Rattle.lanes.specs.declared.said.Block.{Block}
-use Rattle.blocks.specs.Open.{nesting}
-use Rattle.wave.specs.Layout.{beforeElse}
+use Rattle.lanes.specs.Blocks.{nesting, beforeElse}
 use Rattle.wave.specs.Rules.{isLoop}
 
 -- the innermost block is an IF before its ELSE

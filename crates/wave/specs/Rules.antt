@@ -8,8 +8,7 @@ use lib.Dec.{eqb, ltb}
 use Rattle.instructions.specs.declared.instr.Guard.{Guard}
 use Rattle.lanes.specs.Sets.{without}
 use Rattle.lanes.specs.declared.said.Block.{Block}
-use Rattle.blocks.specs.Open.{nesting}
-use Rattle.wave.specs.Layout.{beforeElse, afterElse, loopPart}
+use Rattle.lanes.specs.Blocks.{nesting, beforeElse, afterElse, loopPart}
 use Rattle.wave.specs.Wave.{Wave, Preds}
 
 -- ---- the executing lanes

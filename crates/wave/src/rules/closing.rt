@@ -1,6 +1,5 @@
 // The end of a half or of a block: ELSE, ENDIF and ENDLOOP.
 use crate::rules::going::after_place;
-use crate::state::AFTER_ELSE;
 use crate::state::AGAIN;
 use crate::state::ASIDE;
 use crate::state::BLOCK_NUMBERS;
@@ -9,6 +8,7 @@ use crate::state::OPENER;
 use crate::state::PATH_NUMBERS;
 use crate::state::depth_of;
 use crate::state::whole;
+use lanes::said::AFTER_ELSE;
 ghost use Rattle.wave.specs.Wave.{Does};
 ghost use Rattle.wave.specs.Rules.{elseRule, endifRule, endloopRule};
 

@@ -4,7 +4,7 @@ use mathlib.Core.Path.{refl}
 use Prim.Native.Nat.{_-_}
 use lib.Dec.{ltb}
 use Rattle.blocks.specs.Code.{codeOf}
-use Rattle.blocks.specs.Open.{nesting}
+use Rattle.lanes.specs.Blocks.{nesting}
 use Rattle.blocks.proofs.Widths.{code-fits}
 use Rattle.blocks.proofs.Judging.{turned}
 use Rattle.blocks.proofs.Advances.{Ready, stopped, on, on-ok, close, enter, enter-ok, stop}

@@ -1,6 +1,6 @@
 -- IF: six stores put one block more above the open ones, where there is room.
 use Rattle.lanes.specs.declared.said.Block.{Block}
-use Rattle.wave.specs.Layout.{beforeElse}
+use Rattle.lanes.specs.Blocks.{beforeElse}
 use Rattle.wave.specs.Rules.{ifRule, opening}
 use Rattle.wave.proofs.Ruling.{Begun, full, opened-one}
 use borrow.Author.Needs.{needs}
