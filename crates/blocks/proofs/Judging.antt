@@ -7,6 +7,7 @@ use mathlib.Core.List.{List, [], _∷_}
 use lib.ListN.{length}
 use lib.Dec.{eqb}
 use borrow.Author.Tests.{lt-ltb, le-ltb, ne-eqb}
+use Rattle.lanes.specs.Blocks.{nesting}
 use Rattle.refusals.specs.Table.{Rule, broken}
 use Rattle.blocks.specs.declared.item.Item.{Item}
 use Rattle.blocks.specs.declared.rules.Inside.{Inside}
@@ -14,7 +15,7 @@ use Rattle.blocks.specs.declared.rules.Turn.{Turn}
 use Rattle.blocks.specs.declared.rules.Turn.the-variants.{Go, Close, Enter, Stop}
 use Rattle.blocks.specs.declared.structure.Checked.the-variants.{Refused}
 use Rattle.blocks.specs.Code.{Code}
-use Rattle.blocks.specs.Open.{nesting, Part, before, after, looping, Open, open-at, inLoop, loops, insideOf, innermost}
+use Rattle.blocks.specs.Open.{Part, before, after, looping, Open, open-at, inLoop, loops, insideOf, innermost}
 use Rattle.blocks.specs.Scan.{Next, over, go, stray, opens, ended, react}
 use Rattle.blocks.specs.Rules.{opening, turnOf}
 use Rattle.blocks.specs.Levels.{around, InLevel}

@@ -12,7 +12,8 @@ use Rattle.blocks.specs.declared.item.Item.{Item}
 use Rattle.blocks.specs.declared.structure.Checked.{Checked}
 use Rattle.blocks.specs.declared.structure.Checked.the-variants.{Refused}
 use Rattle.blocks.specs.Code.{Code}
-use Rattle.blocks.specs.Open.{nesting, before, after, looping, Open, open-at, inLoop}
+use Rattle.blocks.specs.Open.{before, after, looping, Open, open-at, inLoop}
+use Rattle.lanes.specs.Blocks.{nesting}
 use Rattle.blocks.specs.Scan.{Next, over, go, stray, ended, react, step, carry, scan, run}
 use Rattle.blocks.proofs.Widths.{Fits, Ok}
 

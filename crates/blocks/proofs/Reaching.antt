@@ -4,6 +4,7 @@ use native.Mathlib.Omega.{arith}
 use mathlib.Core.Path.{_≡_, refl, sym, ap, _∙_, subst}
 use mathlib.Core.Bool.{Bool, false}
 use mathlib.Core.List.{List, [], _∷_}
+use Rattle.lanes.specs.Blocks.{nesting}
 use Rattle.refusals.specs.declared.Refusal.{Refusal}
 use Rattle.refusals.specs.Table.{Rule, broken}
 use Rattle.blocks.specs.declared.rules.Inside.{Inside}
@@ -12,7 +13,7 @@ use Rattle.blocks.specs.declared.rules.Turn.the-variants.{Go, Close, Ent
 use Rattle.blocks.specs.declared.structure.LevelEnd.{LevelEnd}
 use Rattle.blocks.specs.declared.structure.Checked.the-variants.{Fine, Refused}
 use Rattle.blocks.specs.Code.{Code}
-use Rattle.blocks.specs.Open.{nesting, Open, open-at, inLoop, innermost}
+use Rattle.blocks.specs.Open.{Open, open-at, inLoop, innermost}
 use Rattle.blocks.specs.Scan.{over, go, ended, react, run, checkOf}
 use Rattle.blocks.specs.Rules.{turnOf}
 use Rattle.blocks.specs.Levels.{around, InLevel, follows, LevelSays}

@@ -1,12 +1,9 @@
--- The open blocks: the room for nesting, a block's part, and whether a loop is open. Page 01, "Blocks" and "The key".
+-- The open blocks: a block's part, and whether a loop is open. Page 01, "Blocks" and "The key".
 use Prim.Native.Nat.{ℕ, _+_}
 use mathlib.Core.Bool.{Bool, true, false}
 use mathlib.Core.List.{List, [], _∷_}
+use Rattle.lanes.specs.Blocks.{beforeElse, afterElse, loopPart}
 use Rattle.blocks.specs.declared.rules.Inside.{Inside}
-
--- the room for nesting
-abbrev pub nesting : ℕ
-nesting = 32
 
 -- the part of a block that a place stands in: an IF before its ELSE, an IF after it, a loop
 pub data Part : Type 0 where
@@ -16,9 +13,9 @@ pub data Part : Type 0 where
 
 -- the page's number of a part: 1 before ELSE, 2 after, 3 loop
 abbrev pub partNumber : Part → ℕ
-partNumber before = 1
-partNumber after = 2
-partNumber looping = 3
+partNumber before = beforeElse
+partNumber after = afterElse
+partNumber looping = loopPart
 
 -- an open block: its part and the place of its opener
 pub data Open : Type 0 where

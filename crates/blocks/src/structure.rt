@@ -4,6 +4,7 @@ use crate::item::Reading;
 use crate::rules;
 use crate::rules::Inside;
 use crate::rules::Turn;
+use lanes::said::DEEPEST;
 use refusals::Refusal;
 use refusals::UNCLOSED;
 ghost use mathlib.Core.Path.{_≡_};
@@ -12,9 +13,6 @@ ghost use lib.ListN.{length};
 ghost use Rattle.blocks.specs.Code.{codeOf};
 ghost use Rattle.blocks.specs.Scan.{checkOf};
 ghost use Rattle.blocks.specs.Levels.{LevelSays};
-
-// The room for nesting.
-pub const NESTING: usize = 32;
 
 // How a level ends: closed, with the place after its end; refused; or by the end of the code.
 pub enum LevelEnd {
@@ -85,7 +83,7 @@ fn level(
 pub fn check(code: &[u32], reading: Reading) -> Checked
     ensures { λ r. ⌜ r ≡ checkOf (codeOf (now (code .entry)) reading) ⌝ }
 {
-    let end = level(code, reading, 0, NESTING, Inside::Nothing, false);
+    let end = level(code, reading, 0, DEEPEST, Inside::Nothing, false);
     match end {
         LevelEnd::Closed(_) => Checked::Fine,
         LevelEnd::Refused(refusal) => Checked::Refused(refusal),

@@ -17,7 +17,8 @@ use Rattle.ground.proofs.Tests.{false-of, true-or-false}
 use Rattle.formats.specs.Places.{each}
 use Rattle.body.specs.declared.BodyAnswer.the-variants.{Length, Refused}
 use Rattle.body.specs.Body.{setBytes, partsAt, sizeAt}
-use Rattle.body.specs.Layout.{lastPlace, mostDepth, mostKinds, kindLists, faultsFit, blockFits, ofLayout, starts, startsBody, bodyAnswer}
+use Rattle.body.specs.Layout.{lastPlace, mostKinds, kindLists, faultsFit, blockFits, ofLayout, starts, startsBody, bodyAnswer}
+use Rattle.lanes.specs.Blocks.{nesting}
 use Rattle.body.specs.Places.{countAt, depthAt, blockAt}
 use Rattle.body.proofs.Places.{count-faults, depth-blocks, blocks-place, size-place}
 use Rattle.body.proofs.Starts.{starts-of, starts-long, page-few}
@@ -74,10 +75,10 @@ module _ {s : List ℕ} {at c d p : ℕ} {F : Bool} (r : BodyRead s at c d p F) 
   size-is = let a = count-is in let b = depth-is in let e = size-place setBytes body in omega arith
 
   abbrev fits : Bool
-  fits = ((F && leb p lastPlace) && leb d mostDepth) && leb (24 + 8 * c + 24 * d) (length body)
+  fits = ((F && leb p lastPlace) && leb d nesting) && leb (24 + 8 * c + 24 * d) (length body)
 
   pub fits-room : fits ≡ true → 24 + 8 * c + 24 * d ≤ length body
-  fits-room e = leb-true _ _ (and-right ((F && leb p lastPlace) && leb d mostDepth) _ e)
+  fits-room e = leb-true _ _ (and-right ((F && leb p lastPlace) && leb d nesting) _ e)
 
   blocks-are : each (blockAt setBytes body) 24 (24 + 8 * c) d ≡ partsAt body .blocks
   blocks-are =

@@ -14,7 +14,8 @@ use Rattle.formats.proofs.Each.{getD-each}
 use Rattle.formats.proofs.Words.{four-value}
 use Rattle.lanes.specs.declared.said.Fault.{Fault}
 use Rattle.body.specs.Body.{setBytes, faultFormat, blockFormat, partsAt, noFault}
-use Rattle.body.specs.Layout.{lastPlace, beforePart, loopPart, blockFits}
+use Rattle.body.specs.Layout.{lastPlace, blockFits}
+use Rattle.lanes.specs.Blocks.{beforeElse, loopPart}
 use Rattle.body.specs.Places.{kindsPlace, countAt, depthAt, faultAt, blockAt}
 use Rattle.body.proofs.Places.{faults-place, count-faults, depth-blocks}
 
@@ -84,6 +85,6 @@ module _ (s : List ℕ) where
       )
 
   pub block-read : (p part opener again : ℕ) → part ≡ numberAt s p → opener ≡ numberAt s (p + 4) → again ≡ numberAt s (p + 16)
-      → (((leb opener lastPlace && leb beforePart part) && leb part loopPart) && (eqb part loopPart || eqb again 0)) ≡ blockFits (blockAt setBytes s p)
+      → (((leb opener lastPlace && leb beforeElse part) && leb part loopPart) && (eqb part loopPart || eqb again 0)) ≡ blockFits (blockAt setBytes s p)
   unfolding blockFits
   block-read p part opener again a b c = rw (block-read-at p, a, b, c) (simp and-assoc)

@@ -14,7 +14,8 @@ use Rattle.ground.proofs.Bools.{and-left, and-right, and-both}
 use Rattle.ground.proofs.Tests.{one-all}
 use Rattle.lanes.specs.declared.said.Fault.{Fault}
 use Rattle.body.specs.Body.{Parts, bodyFormat}
-use Rattle.body.specs.Layout.{lastPlace, mostDepth, mostKinds, Kinds, kindLists, faultBytes, blockBytes, lengthOf, apart, faultsFit, blockFits, ofLayout, starts, isWhole}
+use Rattle.body.specs.Layout.{lastPlace, mostKinds, Kinds, kindLists, faultBytes, blockBytes, lengthOf, apart, faultsFit, blockFits, ofLayout, starts, isWhole}
+use Rattle.lanes.specs.Blocks.{nesting}
 use Rattle.body.specs.Places.{countAt, depthAt}
 use Rattle.body.proofs.Formats.{body-lawful}
 use Rattle.body.proofs.Places.{count-faults, depth-blocks, size-place}
@@ -23,14 +24,14 @@ use Rattle.body.proofs.Places.{count-faults, depth-blocks, size-place}
 pub record Fits (k : Kinds) (p : Parts) : Type 0 where
   pub place : p .place ≤ lastPlace
   pub faults : faultsFit k (p .faults) ≡ true
-  pub depth : length (p .blocks) ≤ mostDepth
+  pub depth : length (p .blocks) ≤ nesting
   pub blocks : allOf blockFits (p .blocks) ≡ true
 
 module _ (k : Kinds) (p : Parts) where
   pub fits-of : ofLayout k p ≡ true → Fits k p
   unfolding ofLayout
   fits-of e =
-      let D = leb (length (p .blocks)) mostDepth in
+      let D = leb (length (p .blocks)) nesting in
       let B = allOf blockFits (p .blocks) in
       let F = faultsFit k (p .faults) in
       let L = leb (p .place) lastPlace in
@@ -45,7 +46,7 @@ module _ (k : Kinds) (p : Parts) where
 
   pub of-fits : Fits k p → ofLayout k p ≡ true
   unfolding ofLayout
-  of-fits h = rw (le-leb (p .place) lastPlace (h .place), h .faults, le-leb (length (p .blocks)) mostDepth (h .depth)) (h .blocks)
+  of-fits h = rw (le-leb (p .place) lastPlace (h .place), h .faults, le-leb (length (p .blocks)) nesting (h .depth)) (h .blocks)
 
 -- ---- s starts with a body
 
@@ -126,13 +127,13 @@ kinds-count k n h fs e =
 
 -- and so it is at least as long as with one kind and no block, and at most as with n kinds in 32 blocks
 pub starts-long : (k : Kinds) (w n : ℕ) → allOf (few n) k ≡ true → (s : List ℕ) → Starts k w s
-    → (lengthOf w 1 0 ≤ bodyFormat w .size s) × (bodyFormat w .size s ≤ lengthOf w n mostDepth)
+    → (lengthOf w 1 0 ≤ bodyFormat w .size s) × (bodyFormat w .size s ≤ lengthOf w n nesting)
 starts-long k w n f s h =
     let c = kinds-count k n f (bodyFormat w .read s .faults) (h .fits .faults) in
     let e = size-place w s in
     let faults : countAt s ≤ n = omega (arith, c .1, count-faults w s) in
     let some : 1 ≤ countAt s = omega (arith, c .0, count-faults w s) in
-    let blocks : depthAt w s ≤ mostDepth = omega (arith, h .fits .depth, depth-blocks w s) in
+    let blocks : depthAt w s ≤ nesting = omega (arith, h .fits .depth, depth-blocks w s) in
     let a = mul-le-mul-left (faultBytes w) some in
     let b = mul-le-mul-left (faultBytes w) faults in
     let d = mul-le-mul-left (blockBytes w) blocks in

@@ -7,6 +7,7 @@ use lib.Bits.{bitAnd}
 use lib.ListN.{length, drop}
 use Rattle.refusals.specs.Table.{Rule, broken}
 use Rattle.ground.specs.Tests.{oneOf, allOf}
+use Rattle.lanes.specs.Blocks.{nesting, beforeElse, loopPart}
 use Rattle.lanes.specs.declared.said.Block.{Block}
 use Rattle.lanes.specs.declared.said.Fault.{Fault}
 use Rattle.body.specs.Body.{Parts, bodyFormat, setBytes, sizeAt}
@@ -17,16 +18,6 @@ use Rattle.body.specs.declared.BodyAnswer.the-variants.{Length, Refused}
 
 abbrev pub lastPlace : ℕ
 lastPlace = 65535
-
-abbrev pub mostDepth : ℕ
-mostDepth = 32
-
--- a block's part: before ELSE, after it, a loop
-abbrev pub beforePart : ℕ
-beforePart = 1
-
-abbrev pub loopPart : ℕ
-loopPart = 3
 
 -- the kinds that one fault may have
 abbrev pub Kinds : Type 0
@@ -60,7 +51,7 @@ abbrev pub shortest : ℕ
 shortest = lengthOf setBytes 1 0
 
 abbrev pub longest : ℕ
-longest = lengthOf setBytes mostKinds mostDepth
+longest = lengthOf setBytes mostKinds nesting
 
 -- ---- the layout
 
@@ -74,11 +65,11 @@ faultsFit k fs = oneOf (map (λ (f : Fault). f .kind) fs) k && apart (map (λ (f
 
 -- the opener's place is at most 65,535, the part 1 to 3, and again 0 in parts 1 and 2
 unfoldable pub blockFits : Block → Bool
-blockFits b = leb (b .opener) lastPlace && (leb beforePart (b .part) && (leb (b .part) loopPart && (eqb (b .part) loopPart || eqb (b .again) 0)))
+blockFits b = leb (b .opener) lastPlace && (leb beforeElse (b .part) && (leb (b .part) loopPart && (eqb (b .part) loopPart || eqb (b .again) 0)))
 
 -- what a body says is of the layout
 unfoldable pub ofLayout : Kinds → Parts → Bool
-ofLayout k p = leb (p .place) lastPlace && (faultsFit k (p .faults) && (leb (length (p .blocks)) mostDepth && allOf blockFits (p .blocks)))
+ofLayout k p = leb (p .place) lastPlace && (faultsFit k (p .faults) && (leb (length (p .blocks)) nesting && allOf blockFits (p .blocks)))
 
 -- s starts with a body of the layout
 unfoldable pub starts : Kinds → ℕ → List ℕ → Bool

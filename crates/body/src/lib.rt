@@ -9,7 +9,10 @@ use fields::depth;
 use fields::fault;
 use fields::place;
 use lanes::Lanes;
+use lanes::said::BEFORE_ELSE;
+use lanes::said::DEEPEST;
 use lanes::said::Fault;
+use lanes::said::LOOP;
 use numbers::get;
 use refusals::NOT_OF_LAYOUT;
 use refusals::Refusal;
@@ -25,16 +28,10 @@ ghost use Rattle.body.specs.Spelling.{spells, mayPrecede};
 
 const LAST_PLACE: u32 = 65535;
 
-pub const MOST_DEPTH: usize = 32;
-
 const MOST_KINDS: usize = 2;
 
-const BEFORE_PART: u32 = 1;
-
-const LOOP_PART: u32 = 3;
-
 // The length of the longest body.
-pub const LONGEST: usize = HEAD_BYTES + FAULT_BYTES * MOST_KINDS + BLOCK_BYTES * MOST_DEPTH;
+pub const LONGEST: usize = HEAD_BYTES + FAULT_BYTES * MOST_KINDS + BLOCK_BYTES * DEEPEST;
 
 // The length of a body, or the refusal.
 pub enum BodyAnswer {
@@ -94,9 +91,9 @@ fn block_fits(bytes: &[u8], p: usize) -> bool
     let opener = get(bytes, p + 4);
     let again = get(bytes, p + 16);
     (opener <= LAST_PLACE)
-        & (BEFORE_PART <= part)
-        & (part <= LOOP_PART)
-        & ((part == LOOP_PART) | (again == 0))
+        & (BEFORE_ELSE <= part)
+        & (part <= LOOP)
+        & ((part == LOOP) | (again == 0))
 }
 
 // Whether the blocks from `p` on, `depth` of them, are of the layout.
@@ -132,7 +129,7 @@ pub fn body_length(bytes: &[u8], at: usize) -> BodyAnswer
     let size = head + BLOCK_BYTES * blocks;
     let fits = faults_fit(body)
         & (place(body) <= LAST_PLACE)
-        & (blocks <= MOST_DEPTH)
+        & (blocks <= DEEPEST)
         & (size <= body.len());
     if !fits {
         return BodyAnswer::Refused(Refusal {

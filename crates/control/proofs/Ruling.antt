@@ -9,13 +9,13 @@ use native.Mathlib.Omega.{arith}
 use borrow.Author.Tests.{ne-eqb, lt-ltb}
 use lib.ListN.{length, getD, set, drop, length-map, length-drop}
 use lib.Bits.{bitOr}
+use Rattle.lanes.specs.Blocks.{nesting, afterElse}
 use Rattle.instructions.specs.declared.instr.ControlOp.{ControlOp}
 use Rattle.lanes.specs.Sets.{without}
 use Rattle.lanes.specs.declared.said.Block.{Block}
 use Rattle.wave.specs.declared.state.Hot.{Hot}
 use Rattle.control.specs.declared.rules.Stepped.{Stepped}
-use Rattle.blocks.specs.Open.{nesting}
-use Rattle.wave.specs.Layout.{pathNumbers, blockNumbers, afterElse, laid, blockAt, opened, put, over}
+use Rattle.wave.specs.Layout.{pathNumbers, blockNumbers, laid, blockAt, opened, put, over}
 use Rattle.wave.specs.Wave.{Wave, waveOf, predsOf, hotOf, Held, held, Does}
 use Rattle.wave.specs.Going.{next, goes, onwardBy}
 use Rattle.control.specs.Rules.{onward, turned, wentRound, leave, opens, toLoop, asideRule, elseRule, endifRule, endloopRule, haltRule, barred, barrierLanes, barrierRule}

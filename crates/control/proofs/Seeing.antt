@@ -10,12 +10,12 @@ use borrow.Author.Tests.{lt-ltb, le-ltb}
 use lib.ListN.{length, length-map}
 use lib.Bits.{bitOr}
 use lib.Dec.{eqb}
+use Rattle.lanes.specs.Blocks.{nesting}
 use Rattle.instructions.specs.declared.instr.ControlOp.{ControlOp}
 use Rattle.instructions.specs.declared.instr.ControlOp.the-variants.{If, Else, Endif, Loop, Break, Continue, Endloop, Halt, Barrier, Nop}
 use Rattle.lanes.specs.declared.said.Block.{Block}
 use Rattle.wave.specs.declared.state.Hot.{Hot}
 use Rattle.control.specs.declared.rules.Stepped.{Stepped}
-use Rattle.blocks.specs.Open.{nesting}
 use Rattle.wave.specs.Layout.{pathNumbers}
 use Rattle.wave.specs.Wave.{Wave, waveOf, predsOf}
 use Rattle.control.specs.Rules.{onward, opens, elseOn, endifOn, endloopOn, barred, broken, continued}

@@ -9,8 +9,8 @@ use borrow.Author.Tests.{eq-eqb, ne-eqb}
 use lib.ListN.{length, getD, set, drop}
 use lib.Seq.{getD-set-other, drop-set-add, set-out}
 use lib.Bits.{bitOr}
+use Rattle.lanes.specs.Blocks.{nesting}
 use Rattle.lanes.specs.declared.said.Block.{Block}
-use Rattle.blocks.specs.Open.{nesting}
 use Rattle.wave.specs.Layout.{blockNumbers, pathNumbers, six, laid, blockAt, opened, over}
 use Rattle.wave.specs.Layout.{isLoop}
 use Rattle.control.specs.Rules.{leave, toLoop}

@@ -5,10 +5,10 @@ use Prim.Native.Nat.{ℕ}
 use lib.ListN.{length}
 use lib.Bits.{bitAnd, bitOr}
 use lib.Dec.{eqb, ltb}
+use Rattle.lanes.specs.Blocks.{nesting, beforeElse, afterElse, loopPart}
 use Rattle.lanes.specs.Sets.{without}
 use Rattle.lanes.specs.declared.said.Block.{Block}
-use Rattle.blocks.specs.Open.{nesting}
-use Rattle.wave.specs.Layout.{beforeElse, afterElse, loopPart, isLoop}
+use Rattle.wave.specs.Layout.{isLoop}
 use Rattle.wave.specs.Wave.{Wave}
 use Rattle.wave.specs.Going.{next, goes, onwardBy}
 

@@ -7,8 +7,8 @@ use mathlib.Core.List.{List, [], _∷_}
 use Prim.Native.Nat.{ℕ}
 use lib.ListN.{length, set, getD}
 use lib.Bits.{bitOr}
+use Rattle.lanes.specs.Blocks.{nesting}
 use Rattle.lanes.specs.declared.said.Block.{Block}
-use Rattle.blocks.specs.Open.{nesting}
 use Rattle.wave.specs.Layout.{six}
 use Rattle.wave.specs.Layout.{isLoop}
 

@@ -8,7 +8,8 @@ use native.Mathlib.Omega.{arith}
 use lib.ListN.{length, take}
 use Rattle.ground.specs.Tests.{allOf}
 use Rattle.body.specs.Body.{setBytes}
-use Rattle.body.specs.Layout.{mostDepth, Kinds, kindLists, mostKinds, lengthOf}
+use Rattle.body.specs.Layout.{Kinds, kindLists, mostKinds, lengthOf}
+use Rattle.lanes.specs.Blocks.{nesting}
 use Rattle.body.proofs.Starts.{starts-of, of-starts, starts-append, body-starts, cut-body, few, starts-long, page-few}
 use Rattle.dayfile.specs.Day.{Layout, layoutOf, page}
 
@@ -22,7 +23,7 @@ pub record Lawful (L : Layout) : Type 0 where
   pub long : (b : List ℕ) → L .whole b ≡ true → (1 ≤ length b) × (length b ≤ mostLong)
 
 -- n is the most kinds of the table
-pub layout-lawful : (k : Kinds) (w n : ℕ) → allOf (few n) k ≡ true → lengthOf w n mostDepth ≤ mostLong → Lawful (layoutOf k w)
+pub layout-lawful : (k : Kinds) (w n : ℕ) → allOf (few n) k ≡ true → lengthOf w n nesting ≤ mostLong → Lawful (layoutOf k w)
 layout-lawful k w n f m =
     record {
       followed = λ b t e. let s = body-starts k w b e in let a = starts-append b t (s .0) in (of-starts (b ++ t) (a .0), a .1 ∙ sym (s .1));

@@ -11,11 +11,12 @@ use borrow.Author.Tests.{eq-eqb, ne-eqb, lt-leb}
 use lib.ListN.{length, set}
 use lib.Seq.{getD-set-same, getD-set-other}
 use lib.Dec.{eqb, leb}
+use Rattle.lanes.specs.Blocks.{nesting}
 use Rattle.lanes.specs.Sets.{first, widest}
 use Rattle.blocks.specs.declared.item.Reading.{Reading}
 use Rattle.nesting.specs.declared.places.OpenAt.{OpenAt}
 use Rattle.blocks.specs.Code.{codeOf}
-use Rattle.blocks.specs.Open.{nesting, Open, partNumberOf, openerOf}
+use Rattle.blocks.specs.Open.{Open, partNumberOf, openerOf}
 use Rattle.nesting.specs.OpenAt.{Found, nowhere, there, openAt, shown, filled}
 use Rattle.blocks.proofs.Widths.{code-fits}
 use Rattle.nesting.proofs.Openers.{at-most}

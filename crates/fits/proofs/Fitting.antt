@@ -8,12 +8,13 @@ use native.Mathlib.Omega.{arith}
 use borrow.Author.Tests.{eqb-true, eq-eqb, leb-true, le-leb}
 use lib.Bits.{bitAnd, bitOr}
 use lib.Dec.{eqb, leb}
+use Rattle.lanes.specs.Blocks.{nesting}
 use Rattle.ground.proofs.Bools.{never, and-left, and-right, and-both}
 use Rattle.lanes.specs.Sets.{bit, first, widest}
 use Rattle.lanes.proofs.Bits.{bit-le, bit-zero, bit-or, set-ext, apart-sum, sum-apart, within-le, le-within}
 use Rattle.blocks.specs.declared.item.Reading.{Reading}
 use Rattle.blocks.specs.Code.{codeOf}
-use Rattle.blocks.specs.Open.{nesting, Open, partNumberOf, openerOf}
+use Rattle.blocks.specs.Open.{Open, partNumberOf, openerOf}
 use Rattle.nesting.specs.OpenAt.{Found, nowhere, there, openAt}
 use Rattle.lanes.specs.declared.said.Block.{Block}
 use Rattle.wave.specs.declared.state.Hot.{Hot}

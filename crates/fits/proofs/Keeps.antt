@@ -14,7 +14,7 @@ use Rattle.instructions.specs.declared.instr.ControlOp.the-variants.{If, Else, 
 use Rattle.lanes.specs.Sets.{bit, first}
 use Rattle.lanes.proofs.Bits.{bit-le, bit-zero, bit-and, bit-or, bit-without, set-ext}
 use Rattle.lanes.specs.declared.said.Block.{Block}
-use Rattle.blocks.specs.Open.{nesting}
+use Rattle.lanes.specs.Blocks.{nesting}
 use Rattle.wave.specs.Wave.{Wave, Preds, launch, clear}
 use Rattle.wave.specs.Layout.{isLoop}
 use Rattle.wave.specs.Going.{onwardBy}

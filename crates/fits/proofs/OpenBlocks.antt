@@ -6,6 +6,7 @@ use mathlib.Core.List.{List, [], _∷_}
 use Prim.Native.Nat.{ℕ, _+_, _^_, _≤_, _<_}
 use native.Mathlib.Omega.{arith}
 use lib.ListN.{length}
+use Rattle.lanes.specs.Blocks.{beforeElse, loopPart}
 use Rattle.lanes.specs.Sets.{bit, first, widest}
 use Rattle.lanes.proofs.Bits.{within-first-lt}
 use Rattle.blocks.specs.declared.item.Reading.{Reading}
@@ -16,7 +17,6 @@ use Rattle.blocks.proofs.Widths.{code-fits}
 use Rattle.nesting.proofs.Openers.{EachOpened, each-opened}
 use Rattle.lanes.specs.declared.said.Block.{Block}
 use Rattle.wave.specs.Wave.{Wave, Preds}
-use Rattle.wave.specs.Layout.{beforeElse, loopPart}
 use Rattle.wave.specs.Layout.{isLoop}
 use Rattle.fits.specs.Fits.{Same, OpenThere, Quiet, WaveFits}
 use Rattle.fits.proofs.AtLane.{FitsAt, fits-lanes}

@@ -7,13 +7,14 @@ use mathlib.Core.Path.{_≡_, refl, sym, ap, subst}
 use mathlib.Core.Logic.{_⊎_, _↔_, inl, inr, dite}
 use mathlib.Core.List.{List}
 use lib.ListN.{length}
+use Rattle.lanes.specs.Blocks.{nesting}
 use Rattle.lanes.specs.Sets.{widest}
 use Rattle.instructions.specs.declared.instr.Instr.{Instr}
 use Rattle.words.specs.Rules.{Stands}
 use Rattle.words.proofs.Standing.{stood}
 use Rattle.blocks.specs.declared.item.Reading.{Reading}
 use Rattle.blocks.specs.Code.{codeOf}
-use Rattle.blocks.specs.Open.{nesting, Open}
+use Rattle.blocks.specs.Open.{Open}
 use Rattle.nesting.specs.OpenAt.{Found, nowhere, there, openAt}
 use Rattle.nesting.specs.Nesting.{Nested}
 use Rattle.blocks.proofs.Widths.{code-fits}

@@ -19,7 +19,8 @@ use Rattle.blocks.specs.declared.item.Reading.{Reading}
 use Rattle.blocks.specs.declared.structure.Checked.the-variants.{Fine}
 use Rattle.blocks.specs.Item.{controlItem, itemAt}
 use Rattle.blocks.specs.Code.{codeOf}
-use Rattle.blocks.specs.Open.{nesting, Open, open-at, before, after, looping, inLoop}
+use Rattle.blocks.specs.Open.{Open, open-at, before, after, looping, inLoop}
+use Rattle.lanes.specs.Blocks.{nesting}
 use Rattle.blocks.specs.Scan.{checkOf}
 use Rattle.nesting.specs.OpenAt.{Found, nowhere, there, openAt}
 use Rattle.blocks.proofs.Widths.{code-fits}

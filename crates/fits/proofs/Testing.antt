@@ -6,7 +6,7 @@ use Prim.Native.Nat.{ℕ, zero, suc, _-_, _<_, min}
 use native.Mathlib.Omega.{arith}
 use Rattle.lanes.specs.declared.said.Block.{Block}
 use Rattle.wave.specs.declared.state.Hot.{Hot}
-use Rattle.blocks.specs.Open.{nesting}
+use Rattle.lanes.specs.Blocks.{nesting}
 use Rattle.wave.specs.Layout.{blockAt, opened}
 use Rattle.wave.specs.Wave.{waveOf, predsOf}
 use Rattle.fits.specs.FitsTest.{joins, within, withAside, blockTest, pathTest, setsTest}

@@ -3,10 +3,11 @@ use mathlib.Core.Path.{_≡_}
 use mathlib.Core.Bool.{false}
 use mathlib.Core.List.{List, [], _∷_, _++_}
 use Prim.Native.Nat.{ℕ, _+_, _≤_, _<_}
+use Rattle.lanes.specs.Blocks.{nesting}
 use Rattle.lanes.specs.Sets.{bit, widest}
 use Rattle.blocks.specs.declared.item.Reading.{Reading}
 use Rattle.blocks.specs.Code.{codeOf}
-use Rattle.blocks.specs.Open.{nesting, Open, partNumberOf, openerOf}
+use Rattle.blocks.specs.Open.{Open, partNumberOf, openerOf}
 use Rattle.nesting.specs.OpenAt.{Found, nowhere, there, openAt}
 use Rattle.lanes.specs.declared.said.Block.{Block}
 use Rattle.wave.specs.declared.state.Hot.{Hot}

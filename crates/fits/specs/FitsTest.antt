@@ -7,10 +7,11 @@ use Prim.Native.Nat.{ℕ, zero, suc, _+_, _*_}
 use lib.ListN.{getD}
 use lib.Bits.{bitAnd, bitOr}
 use lib.Dec.{eqb, leb}
+use Rattle.lanes.specs.Blocks.{nesting}
 use Rattle.lanes.specs.Sets.{first, widest}
 use Rattle.blocks.specs.declared.item.Reading.{Reading}
 use Rattle.blocks.specs.Code.{codeOf}
-use Rattle.blocks.specs.Open.{nesting, Open, partNumberOf, openerOf}
+use Rattle.blocks.specs.Open.{Open, partNumberOf, openerOf}
 use Rattle.nesting.specs.OpenAt.{Found, nowhere, there, openAt}
 use Rattle.lanes.specs.declared.said.Block.{Block}
 use Rattle.wave.specs.declared.state.Hot.{Hot}

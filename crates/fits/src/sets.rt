@@ -1,19 +1,19 @@
 // Whether the sets of a handed-in state fit.
 use lanes::Lanes;
 use lanes::said::Block;
+use lanes::said::LOOP;
 use wave::state::AGAIN;
 use wave::state::ASIDE;
 use wave::state::BLOCK_NUMBERS;
 use wave::state::ENTERED;
 use wave::state::Hot;
 use wave::state::LEFT;
-use wave::state::LOOP;
 use wave::state::OPENER;
 use wave::state::PATH_NUMBERS;
 use wave::state::depth_of;
 ghost use mathlib.Core.Path.{_≡_};
 ghost use Prim.Native.Nat.{_<_};
-ghost use Rattle.blocks.specs.Open.{nesting};
+ghost use Rattle.lanes.specs.Blocks.{nesting};
 ghost use Rattle.wave.specs.Layout.{blockAt};
 ghost use Rattle.wave.specs.Wave.{waveOf, predsOf};
 ghost use Rattle.fits.specs.FitsTest as test;

@@ -10,7 +10,8 @@ use Rattle.ground.proofs.Bools.{and-both}
 use Rattle.ground.proofs.Tests.{all-append}
 use Rattle.numbers.proofs.Numerals.{small-nil, small-cons}
 use Rattle.body.specs.Body.{blockFormat, setBytes}
-use Rattle.body.specs.Layout.{lastPlace, beforePart, loopPart, blockFits}
+use Rattle.body.specs.Layout.{lastPlace, blockFits}
+use Rattle.lanes.specs.Blocks.{beforeElse, loopPart}
 use Rattle.lanes.specs.declared.said.Block.{Block}
 use Rattle.wave.specs.Layout.{isLoop}
 use Rattle.fits.proofs.OpenBlocks.{Sized, AllSized}
@@ -41,11 +42,11 @@ module _ (words : ℕ) (short : words ≤ mostWords) where
   block-fits : (b : Block) → Sized words b → (l : Bool) → isLoop b ≡ l → blockFits b ≡ true
   unfolding blockFits
   block-fits b s true e =
-      rw (le-leb (b .opener) lastPlace (omega (arith, s .opener)), le-leb beforePart (b .part) (s .some), le-leb (b .part) loopPart (s .few), e)
+      rw (le-leb (b .opener) lastPlace (omega (arith, s .opener)), le-leb beforeElse (b .part) (s .some), le-leb (b .part) loopPart (s .few), e)
   block-fits b s false e =
       rw (
         le-leb (b .opener) lastPlace (omega (arith, s .opener)),
-        le-leb beforePart (b .part) (s .some),
+        le-leb beforeElse (b .part) (s .some),
         le-leb (b .part) loopPart (s .few),
         e,
         s .quiet e,

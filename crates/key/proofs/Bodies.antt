@@ -21,7 +21,8 @@ use Rattle.formats.proofs.Digits.{length-bytesIn}
 use Rattle.formats.proofs.Putting.{four-fits, put-behind}
 use Rattle.body.specs.declared.BodyAnswer.the-variants.{Length, Refused as NoBody}
 use Rattle.body.specs.Body.{Parts, faultFormat, blockFormat, bodyFormat, setBytes, bytesOfBody, sizeAt}
-use Rattle.body.specs.Layout.{kindLists, fitsLayout, mostDepth, starts, startsBody, bodyAnswer}
+use Rattle.body.specs.Layout.{kindLists, fitsLayout, starts, startsBody, bodyAnswer}
+use Rattle.lanes.specs.Blocks.{nesting}
 use Rattle.body.proofs.Places.{length-body}
 use Rattle.body.proofs.Starts.{fits-of, starts-of}
 use Rattle.body.proofs.Written.{parts-back, size-back}
@@ -76,12 +77,12 @@ module _ (kernel : ℕ) (f : Faults) (s : State) where
       (and-both _ _ (four-fits _ (omega (arith, length-blocks s))) bs)))))
 
 -- there is room for it
-pub body-room : (kernel : ℕ) (f : Faults) (s : State) → s .hot .depth ≤ mostDepth → length (bytesOfBody (partsOf kernel f s)) ≤ room
+pub body-room : (kernel : ℕ) (f : Faults) (s : State) → s .hot .depth ≤ nesting → length (bytesOfBody (partsOf kernel f s)) ≤ room
 unfolding partsOf
 body-room kernel f s low = omega (arith, length-body setBytes (partsOf kernel f s), few-listed f, length-blocks s)
 
 -- a depth over 32 gives no body
-pub deep-key : (kernel : ℕ) (f : Faults) (s : State) (out : List ℕ) → mostDepth < s .hot .depth
+pub deep-key : (kernel : ℕ) (f : Faults) (s : State) (out : List ℕ) → nesting < s .hot .depth
     → keyed (Refused (broken Rule.not-of-layout 0)) out ≡ bodyKey (partsOf kernel f s) out
 unfolding bodyKey partsOf
 deep-key kernel f s out h =

@@ -28,7 +28,8 @@ use Rattle.runs.proofs.Stopping.{FaultsAt}
 use Rattle.stepping.proofs.FaultKinds.{Faulty, step-faulty, step-apart, Lanes, step-lanes}
 use Rattle.runs.proofs.Returns.{Launchable, lanes-most, InOrder}
 use Rattle.body.specs.Body.{blockFormat, bodyFormat, setBytes}
-use Rattle.body.specs.Layout.{mostDepth, kindLists, blockFits, fitsLayout}
+use Rattle.body.specs.Layout.{kindLists, blockFits, fitsLayout}
+use Rattle.lanes.specs.Blocks.{nesting}
 use Rattle.body.proofs.Starts.{of-fits}
 use Rattle.key.specs.Key.{partsOf}
 use Rattle.key.proofs.Bodies.{parts-room}
@@ -71,7 +72,7 @@ module _ (s : Settings) (code : List ℕ) (l : Launchable s code) (m : Machine) 
             (fits-lanes (s .lanes) (m .wave) (m .preds) (o .fits .sets) .0 i),
       ))
 
-  room : length (m .wave .path) ≤ mostDepth
+  room : length (m .wave .path) ≤ nesting
   room = path-room code (readingOf s) (s .lanes) (m .wave) (m .preds) (o .fits)
 
   blocks-sized : AllSized (length code) (m .wave .path)

@@ -11,7 +11,8 @@ use Rattle.formats.specs.Format.{Format, number, both, counted}
 use Rattle.lanes.specs.declared.said.Block.{Block}
 use Rattle.lanes.specs.declared.said.Fault.{Fault}
 use Rattle.body.specs.Body.{faultFormat, blockFormat, setBytes, sizeAt}
-use Rattle.body.specs.Layout.{mostDepth, faultBytes, lengthOf, startsBody}
+use Rattle.body.specs.Layout.{faultBytes, lengthOf, startsBody}
+use Rattle.lanes.specs.Blocks.{nesting}
 use Rattle.body.specs.Places.{kindsPlace}
 use Rattle.faulting.specs.Kinds.{kinds}
 use Rattle.key.specs.declared.answer.KeyAnswer.the-variants.{Wrote, Refused}
@@ -19,7 +20,7 @@ use Rattle.key.specs.Key.{Keying, keyed}
 
 -- the bytes of every fault kind and 32 blocks: more than any body of the layout has
 abbrev pub room : ℕ
-room = lengthOf setBytes kinds mostDepth
+room = lengthOf setBytes kinds nesting
 
 -- the place behind n fault kinds, and behind them all
 abbrev pub kindsAfter : ℕ → ℕ

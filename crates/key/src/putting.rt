@@ -22,7 +22,8 @@ ghost use lib.ListN.{length};
 ghost use Rattle.formats.specs.Putting.{Put, PutAll};
 ghost use Rattle.faulting.specs.Kinds.{fault, withLanes, listed};
 ghost use Rattle.body.specs.Body.{faultFormat, bodyFormat, setBytes};
-ghost use Rattle.body.specs.Layout.{mostDepth, faultBytes};
+ghost use Rattle.body.specs.Layout.{faultBytes};
+ghost use Rattle.lanes.specs.Blocks.{nesting};
 ghost use Rattle.body.specs.Places.{kindsPlace};
 ghost use Rattle.key.specs.Key.{blocksOf, partsOf};
 ghost use Rattle.key.specs.Putting.{room, kindsAfter, kindsEnd, headFormat, stateFormat};
@@ -86,7 +87,7 @@ fn put_head(kernel: u32, place: u32, f: Faults, out: &mut [u8]) -> usize
 
 // Puts the active and the halted lanes, the depth and the open blocks of a state into `out` from `at` on.
 fn put_state(state: State, at: usize, out: &mut [u8])
-    requires { ⌜ (state .hot .depth ≤ mostDepth) × (at ≤ kindsEnd) ⌝ }
+    requires { ⌜ (state .hot .depth ≤ nesting) × (at ≤ kindsEnd) ⌝ }
     ensures { λ _. ⌜ Put stateFormat (state .hot .active, (state .hot .halted, blocksOf state)) (now (out .entry)) at (now (out .exit)) ⌝ }
 {
     let hot = state.hot;
@@ -101,7 +102,7 @@ fn put_state(state: State, at: usize, out: &mut [u8])
 
 // Puts the body of a fault at the front of `out`, as far as it fits.
 pub(crate) fn put_body(kernel: u32, f: Faults, state: State, out: &mut [u8])
-    requires { ⌜ state .hot .depth ≤ mostDepth ⌝ }
+    requires { ⌜ state .hot .depth ≤ nesting ⌝ }
     ensures { λ _. ⌜ Put (bodyFormat setBytes) (partsOf kernel f state) (now (out .entry)) 0 (now (out .exit)) ⌝ }
 {
     let at = put_head(kernel, state.hot.place, f, out);

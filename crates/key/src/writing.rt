@@ -2,27 +2,27 @@
 use crate::answer::KeyAnswer;
 use crate::putting::put_body;
 use body::BodyAnswer;
-use body::MOST_DEPTH;
 use body::body_length;
 use body::fields::BLOCK_BYTES;
 use body::fields::FAULT_BYTES;
 use body::fields::HEAD_BYTES;
 use faulting::faults::Faults;
 use faulting::faults::KINDS;
+use lanes::said::DEEPEST;
+use lanes::said::NESTING;
 use numbers::put_bytes;
 use refusals::NOT_OF_LAYOUT;
 use refusals::Refusal;
 use refusals::SHORT;
 use stepping::answers::Outcome;
 use stepping::answers::Replayed;
-use wave::state::NESTING;
 use wave::state::State;
 ghost use mathlib.Core.Path.{_≡_};
 ghost use Rattle.key.specs.Key.{keyed, partsOf, bodyKey, keyOf};
 ghost use Rattle.key.specs.Putting.{copied};
 
 // The bytes of every fault kind and 32 blocks: room for what any state says, of the layout or not.
-const ROOM: usize = HEAD_BYTES + FAULT_BYTES * KINDS + BLOCK_BYTES * MOST_DEPTH;
+const ROOM: usize = HEAD_BYTES + FAULT_BYTES * KINDS + BLOCK_BYTES * DEEPEST;
 
 // Copies the body that `bytes` start with to the front of `out`, and answers its length.
 fn copy_body(bytes: &[u8], out: &mut [u8]) -> KeyAnswer

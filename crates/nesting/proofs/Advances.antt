@@ -5,6 +5,7 @@ use mathlib.Core.Path.{_≡_, refl, sym, ap, _∙_, subst}
 use mathlib.Core.Bool.{Bool, true, false}
 use mathlib.Core.List.{List, [], _∷_}
 use lib.Dec.{ltb}
+use Rattle.lanes.specs.Blocks.{nesting}
 use Rattle.refusals.specs.declared.Refusal.{Refusal}
 use Rattle.refusals.specs.Table.{Rule, broken}
 use Rattle.blocks.specs.declared.rules.Inside.{Inside}
@@ -14,7 +15,7 @@ use Rattle.blocks.specs.declared.structure.Checked.the-variants.{Refused}
 use Rattle.nesting.specs.declared.places.Stack.{Stack}
 use Rattle.nesting.specs.declared.places.Moved.{Moved}
 use Rattle.blocks.specs.Code.{Code}
-use Rattle.blocks.specs.Open.{nesting, Part, Open, open-at, innermost}
+use Rattle.blocks.specs.Open.{Part, Open, open-at, innermost}
 use Rattle.blocks.specs.Scan.{Next, over, go, ended, react, step}
 use Rattle.blocks.specs.Rules.{turnOf}
 use Rattle.blocks.specs.Levels.{around, InLevel}

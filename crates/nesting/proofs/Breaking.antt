@@ -10,6 +10,7 @@ use mathlib.Core.List.{List, [], _∷_}
 use lib.ListN.{length}
 use lib.Dec.{ltb}
 use borrow.Author.Tests.{lt-ltb, le-ltb}
+use Rattle.lanes.specs.Blocks.{nesting}
 use Rattle.refusals.specs.declared.Refusal.{Refusal}
 use Rattle.refusals.specs.Table.{Rule, broken}
 use Rattle.blocks.specs.declared.item.Item.{Item}
@@ -17,7 +18,7 @@ use Rattle.blocks.specs.declared.item.Reading.{Reading}
 use Rattle.blocks.specs.declared.rules.Inside.{Inside}
 use Rattle.blocks.specs.declared.structure.Checked.the-variants.{Refused}
 use Rattle.blocks.specs.Code.{Code, codeOf}
-use Rattle.blocks.specs.Open.{nesting, Part, before, after, looping, Open, open-at, inLoop, innermost}
+use Rattle.blocks.specs.Open.{Part, before, after, looping, Open, open-at, inLoop, innermost}
 use Rattle.blocks.specs.Scan.{Next, over, go, stray, ended, react, step, carry, run, checkOf}
 use Rattle.nesting.specs.Nesting.{nothing, Opened, outside, Broken, at-words, at-instruction, at-end}
 use Rattle.nesting.specs.Nesting.{Misplaced, stray-else, stray-endif, stray-endloop, stray-jump, deep-if, deep-loop}

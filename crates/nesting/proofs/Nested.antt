@@ -10,12 +10,13 @@ use mathlib.Core.List.{List, [], _∷_}
 use lib.ListN.{length}
 use lib.Dec.{ltb}
 use borrow.Author.Tests.{lt-ltb, le-ltb}
+use Rattle.lanes.specs.Blocks.{nesting}
 use Rattle.refusals.specs.Table.{Rule, broken}
 use Rattle.blocks.specs.declared.item.Item.{Item}
 use Rattle.blocks.specs.declared.item.Reading.{Reading}
 use Rattle.blocks.specs.declared.structure.Checked.the-variants.{Fine, Refused}
 use Rattle.blocks.specs.Code.{Code, codeOf}
-use Rattle.blocks.specs.Open.{nesting, Part, before, after, looping, Open, open-at, inLoop}
+use Rattle.blocks.specs.Open.{Part, before, after, looping, Open, open-at, inLoop}
 use Rattle.blocks.specs.Scan.{Next, over, go, stray, ended, react, step, carry, run, checkOf}
 use Rattle.nesting.specs.OpenAt.{there, openAt}
 use Rattle.nesting.specs.Nesting.{Has, Whole, nothing, plain, jump, choice, choice-of-two, loop, Nested}

@@ -9,11 +9,12 @@ use mathlib.Core.List.{List, [], _∷_}
 use lib.ListN.{length}
 use lib.Dec.{ltb}
 use borrow.Author.Tests.{ltb-true}
+use Rattle.lanes.specs.Blocks.{nesting}
 use Rattle.refusals.specs.Table.{Rule, broken}
 use Rattle.blocks.specs.declared.item.Item.{Item}
 use Rattle.blocks.specs.declared.structure.Checked.the-variants.{Refused}
 use Rattle.blocks.specs.Code.{Code}
-use Rattle.blocks.specs.Open.{nesting, Part, before, after, looping, Open, open-at, inLoop}
+use Rattle.blocks.specs.Open.{Part, before, after, looping, Open, open-at, inLoop}
 use Rattle.blocks.specs.Scan.{Next, over, go, stray, react, step}
 use Rattle.nesting.specs.OpenAt.{there, openAt}
 use Rattle.blocks.proofs.Widths.{Fits}

@@ -7,11 +7,12 @@ use lib.ListN.{length, getD, set, length-set, getD-replicate}
 use lib.Seq.{getD-set-same, getD-set-other, set-set, set-getD}
 use lib.Dec.{ltb}
 use borrow.Author.Tests.{lt-ltb}
+use Rattle.lanes.specs.Blocks.{nesting}
 use Rattle.refusals.specs.Table.{Rule, broken}
 use Rattle.blocks.specs.declared.rules.Inside.{Inside}
 use Rattle.blocks.specs.declared.structure.Checked.the-variants.{Fine, Refused}
 use Rattle.nesting.specs.declared.places.Stack.{Stack}
-use Rattle.blocks.specs.Open.{nesting, Part, before, after, looping, Open, open-at, inLoop, partNumber, partNumberOf, openerOf, oneIfLoop, loops, insideOf, innermost}
+use Rattle.blocks.specs.Open.{Part, before, after, looping, Open, open-at, inLoop, partNumber, partNumberOf, openerOf, oneIfLoop, loops, insideOf, innermost}
 use Rattle.blocks.specs.Scan.{ended}
 use Rattle.nesting.specs.OpenAt.{filled, stackOf}
 use Rattle.blocks.specs.Levels.{around}

@@ -12,12 +12,13 @@ use mathlib.Core.List.{List, [], _∷_}
 use lib.ListN.{length}
 use lib.Dec.{ltb}
 use borrow.Author.Tests.{ltb-true}
+use Rattle.lanes.specs.Blocks.{nesting}
 use Rattle.refusals.specs.declared.Refusal.{Refusal}
 use Rattle.refusals.specs.Table.{Rule, broken}
 use Rattle.blocks.specs.declared.item.Item.{Item}
 use Rattle.blocks.specs.declared.structure.Checked.the-variants.{Fine, Refused}
 use Rattle.blocks.specs.Code.{Code}
-use Rattle.blocks.specs.Open.{nesting, Part, before, after, looping, Open, open-at, inLoop}
+use Rattle.blocks.specs.Open.{Part, before, after, looping, Open, open-at, inLoop}
 use Rattle.blocks.specs.Scan.{over, go, stray, ended, react, carry, run, checkOf}
 use Rattle.nesting.specs.OpenAt.{there, openAt}
 use Rattle.blocks.proofs.Refusing.{refused-not-fine}

@@ -4,6 +4,7 @@ use mathlib.Core.Path.{_≡_}
 use mathlib.Core.Bool.{Bool, true, false}
 use mathlib.Core.List.{List, [], _∷_}
 use lib.ListN.{length}
+use Rattle.lanes.specs.Blocks.{nesting}
 use Rattle.refusals.specs.declared.Refusal.{Refusal}
 use Rattle.refusals.specs.Table.{Rule, broken}
 use Rattle.instructions.specs.declared.instr.Instr.{Instr}
@@ -14,7 +15,7 @@ use Rattle.blocks.specs.declared.item.Item.{Item}
 use Rattle.blocks.specs.declared.item.Reading.{Reading}
 use Rattle.blocks.specs.declared.rules.Inside.{Inside}
 use Rattle.blocks.specs.Item.{itemOf}
-use Rattle.blocks.specs.Open.{nesting, Part, before, after, looping, Open, open-at, inLoop, innermost}
+use Rattle.blocks.specs.Open.{Part, before, after, looping, Open, open-at, inLoop, innermost}
 
 -- an instruction of the code, with R registers, and what it is to the blocks: its words stand at the place, and none of its registers is R or more
 abbrev pub Has : List ℕ → Reading → ℕ → Item → Type 0

@@ -5,10 +5,11 @@ use mathlib.Core.Bool.{true, false, cond}
 use mathlib.Core.List.{List, [], _∷_}
 use lib.ListN.{length, replicate, set}
 use lib.Dec.{eqb}
+use Rattle.lanes.specs.Blocks.{nesting}
 use Rattle.nesting.specs.declared.places.Stack.{Stack}
 use Rattle.nesting.specs.declared.places.OpenAt.{OpenAt}
 use Rattle.blocks.specs.Code.{Code}
-use Rattle.blocks.specs.Open.{nesting, Open, partNumberOf, openerOf, loops}
+use Rattle.blocks.specs.Open.{Open, partNumberOf, openerOf, loops}
 use Rattle.blocks.specs.Scan.{carry, step}
 
 pub data Found : Type 0 where

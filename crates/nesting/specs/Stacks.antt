@@ -6,10 +6,11 @@ use mathlib.Core.Bool.{true, false, cond}
 use mathlib.Core.List.{List}
 use lib.ListN.{length}
 use lib.Dec.{eqb}
+use Rattle.lanes.specs.Blocks.{nesting}
 use Rattle.blocks.specs.declared.rules.Inside.{Inside}
 use Rattle.nesting.specs.declared.places.Stack.{Stack}
 use Rattle.nesting.specs.declared.places.Moved.{Moved}
-use Rattle.blocks.specs.Open.{nesting, Part, before, after, looping, Open, partNumber, partNumberOf, openerOf, loops, innermost}
+use Rattle.blocks.specs.Open.{Part, before, after, looping, Open, partNumber, partNumberOf, openerOf, loops, innermost}
 use Rattle.blocks.specs.Scan.{Next, over, go, ended}
 use Rattle.nesting.specs.OpenAt.{filled}
 use Rattle.blocks.specs.Levels.{around}

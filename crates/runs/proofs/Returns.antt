@@ -16,7 +16,7 @@ use Rattle.refusals.specs.declared.Refusal.{Refusal}
 use Rattle.blocks.specs.declared.structure.Checked.{Checked}
 use Rattle.blocks.specs.declared.structure.Checked.the-variants.{Fine}
 use Rattle.blocks.specs.Code.{codeOf}
-use Rattle.blocks.specs.Open.{nesting}
+use Rattle.lanes.specs.Blocks.{nesting}
 use Rattle.blocks.specs.Scan.{checkOf}
 use Rattle.wave.specs.declared.state.State.{State}
 use Rattle.wave.specs.Wave.{Wave, stateOf}

@@ -6,6 +6,7 @@ use mathlib.Core.Path.{_≡_}
 use mathlib.Core.Bool.{true, false}
 use mathlib.Core.List.{List}
 use lib.ListN.{length}
+use Rattle.lanes.specs.Blocks.{nesting}
 use Rattle.instructions.specs.declared.instr.ControlOp.{ControlOp}
 use Rattle.instructions.specs.declared.instr.Op.{Op}
 use Rattle.instructions.specs.declared.instr.Instr.{Instr}
@@ -14,7 +15,6 @@ use Rattle.words.specs.Layout.{wordsOf}
 use Rattle.words.specs.Reading.{readAt}
 use Rattle.words.specs.Rules.{Stands}
 use Rattle.fetching.specs.Fetching.{counted, fetchAt}
-use Rattle.blocks.specs.Open.{nesting}
 use Rattle.instructions.specs.Registers.{Past}
 use Rattle.wave.specs.Going.{onBy}
 use Rattle.control.specs.Ready.{Ready}

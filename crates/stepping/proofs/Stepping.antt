@@ -6,6 +6,7 @@ use Prim.Native.Nat.{ℕ, min}
 use native.Mathlib.Nat.{min-le-right, min-eq-left}
 use lib.Dec.{eqb}
 use lib.ListN.{length}
+use Rattle.lanes.specs.Blocks.{nesting}
 use Rattle.ground.proofs.Bools.{never}
 use Rattle.instructions.specs.declared.instr.ControlOp.{ControlOp}
 use Rattle.fetching.specs.declared.ControlIn.{ControlIn}
@@ -15,7 +16,6 @@ use Rattle.instructions.specs.declared.instr.ControlOp.the-variants.{If, Else, 
 use Rattle.fetching.proofs.Fetches.{control-is}
 use Rattle.wave.specs.declared.state.Hot.{Hot}
 use Rattle.control.specs.declared.rules.Stepped.{Stepped}
-use Rattle.blocks.specs.Open.{nesting}
 use Rattle.wave.specs.Wave.{Wave, Preds, waveOf, predsOf, hotOf}
 use Rattle.wave.specs.Going.{executingOf, onwardBy}
 use Rattle.control.specs.Rules.{onward, barred}

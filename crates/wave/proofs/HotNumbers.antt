@@ -2,7 +2,7 @@
 use mathlib.Core.Path.{_≡_}
 use mathlib.Core.List.{List}
 use Prim.Native.Nat.{ℕ, min}
-use Rattle.blocks.specs.Open.{nesting}
+use Rattle.lanes.specs.Blocks.{nesting}
 use Rattle.wave.specs.declared.state.Hot.{Hot}
 use Rattle.wave.specs.Wave.{waveOf, predsOf, hotOf}
 use Rattle.wave.specs.Going.{onBy, onwardBy}

@@ -8,7 +8,7 @@ use native.Mathlib.Omega.{arith}
 use lib.ListN.{length, replicate, getD, set, drop, length-replicate, length-drop}
 use lib.Seq.{drop-cons}
 use Rattle.lanes.specs.declared.said.Block.{Block}
-use Rattle.blocks.specs.Open.{nesting}
+use Rattle.lanes.specs.Blocks.{nesting}
 use Rattle.wave.specs.Layout.{blockNumbers, pathNumbers, six, laid, arrayOf, blockAt, opened, over}
 
 -- ---- a path that is laid out

@@ -4,7 +4,7 @@ use mathlib.Core.List.{List, []}
 use Prim.Native.Nat.{ℕ, min}
 use Rattle.instructions.specs.declared.instr.Guard.{Guard}
 use Rattle.lanes.specs.Sets.{widest}
-use Rattle.blocks.specs.Open.{nesting}
+use Rattle.lanes.specs.Blocks.{nesting}
 use Rattle.wave.specs.declared.state.Hot.{Hot}
 use Rattle.wave.specs.declared.state.State.{State}
 use Rattle.wave.specs.Wave.{waveOf, predsOf, hotOf, Held, held, tidied, stateOf, launch, clear}

@@ -9,7 +9,7 @@ use lib.ListN.{length, replicate, set, take, drop}
 use lib.Seq.{take-suc-set, take-all, take-at}
 use Rattle.lanes.specs.declared.said.Block.{Block}
 use Rattle.wave.specs.declared.state.Hot.{Hot}
-use Rattle.blocks.specs.Open.{nesting}
+use Rattle.lanes.specs.Blocks.{nesting}
 use Rattle.wave.specs.Layout.{blockNumbers, pathNumbers, six, laid, opened}
 use Rattle.wave.specs.Wave.{held, tidied}
 use Rattle.wave.proofs.Laying.{length-laid, length-opened, laid-opened}

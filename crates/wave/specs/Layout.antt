@@ -4,7 +4,7 @@ use mathlib.Core.List.{List, [], _∷_}
 use Prim.Native.Nat.{ℕ, zero, suc, _+_, _-_, _*_}
 use lib.Dec.{eqb}
 use lib.ListN.{length, replicate, getD, set, drop}
-use Rattle.blocks.specs.Open.{nesting, before, after, looping, partNumber}
+use Rattle.lanes.specs.Blocks.{nesting, loopPart}
 use Rattle.lanes.specs.declared.said.Block.{Block}
 
 -- the numbers of a block, and of as many blocks as there is room for
@@ -14,16 +14,7 @@ blockNumbers = 6
 abbrev pub pathNumbers : ℕ
 pathNumbers = blockNumbers * nesting
 
--- a block's part: 1 before ELSE, 2 after, 3 loop
-abbrev pub beforeElse : ℕ
-beforeElse = partNumber before
-
-abbrev pub afterElse : ℕ
-afterElse = partNumber after
-
-abbrev pub loopPart : ℕ
-loopPart = partNumber looping
-
+-- is it a loop?
 abbrev pub isLoop : Block → Bool
 isLoop b = eqb (b .part) loopPart
 

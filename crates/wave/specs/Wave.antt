@@ -7,7 +7,7 @@ use Rattle.lanes.specs.Sets.{first}
 use Rattle.lanes.specs.declared.said.Block.{Block}
 use Rattle.wave.specs.declared.state.Hot.{Hot}
 use Rattle.wave.specs.declared.state.State.{State}
-use Rattle.blocks.specs.Open.{nesting}
+use Rattle.lanes.specs.Blocks.{nesting}
 use Rattle.wave.specs.Layout.{opened, over, arrayOf}
 
 -- what the control instructions read and change; path: the open blocks, innermost first

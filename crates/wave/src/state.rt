@@ -1,15 +1,13 @@
 // The state of a wave: the hot numbers by value, and the open blocks in one array, outermost first, six numbers each in the key's order.
-use blocks::structure;
 use lanes::Lanes;
+use lanes::said::DEEPEST;
+use lanes::said::NESTING;
 ghost use mathlib.Core.Path.{_≡_};
 ghost use Prim.Native.Nat.{min};
 ghost use lib.ListN.{length};
-ghost use Rattle.blocks.specs.Open.{nesting};
+ghost use Rattle.lanes.specs.Blocks.{nesting};
 ghost use Rattle.wave.specs.Layout.{pathNumbers};
 ghost use Rattle.wave.specs.Wave.{held, tidied};
-
-// The room for nesting: no more blocks are open.
-pub const NESTING: u32 = structure::NESTING as u32;
 
 // An open block is six numbers: its part, and then these.
 pub const BLOCK_NUMBERS: usize = 6;
@@ -25,14 +23,7 @@ pub const AGAIN: usize = 4;
 pub const LEFT: usize = 5;
 
 // The numbers of as many blocks as there is room for.
-pub const PATH_NUMBERS: usize = BLOCK_NUMBERS * structure::NESTING;
-
-// A block's part.
-pub const BEFORE_ELSE: u32 = 1;
-
-pub const AFTER_ELSE: u32 = 2;
-
-pub const LOOP: u32 = 3;
+pub const PATH_NUMBERS: usize = BLOCK_NUMBERS * DEEPEST;
 
 // The numbers that nearly every step reads or writes. `depth` is how many blocks are open.
 pub struct Hot {

@@ -1,14 +1,14 @@
 // Setting lanes aside in the innermost open loop: BREAK and CONTINUE.
 use crate::rules::going::after_place;
 use lanes::Lanes;
+use lanes::said::LOOP;
+use lanes::said::NESTING;
 use lanes::without;
 use wave::state::AGAIN;
 use wave::state::ASIDE;
 use wave::state::BLOCK_NUMBERS;
 use wave::state::Hot;
 use wave::state::LEFT;
-use wave::state::LOOP;
-use wave::state::NESTING;
 use wave::state::PATH_NUMBERS;
 use wave::state::depth_of;
 use wave::state::whole;
@@ -16,8 +16,8 @@ ghost use mathlib.Core.Path.{_≡_};
 ghost use Prim.Native.Nat.{_<_, min};
 ghost use lib.ListN.{set, getD};
 ghost use lib.Bits.{bitOr};
+ghost use Rattle.lanes.specs.Blocks.{nesting};
 ghost use Rattle.lanes.specs.declared.said.Block.{Block};
-ghost use Rattle.blocks.specs.Open.{nesting};
 ghost use Rattle.wave.specs.Layout.{blockNumbers, opened, over};
 ghost use Rattle.wave.specs.Wave.{Does};
 ghost use Rattle.control.specs.Rules.{asideRule, breakRule, continueRule, toLoop};

@@ -1,6 +1,6 @@
 // The end of a half or of a block: ELSE, ENDIF and ENDLOOP.
 use crate::rules::going::after_place;
-use wave::state::AFTER_ELSE;
+use lanes::said::AFTER_ELSE;
 use wave::state::AGAIN;
 use wave::state::ASIDE;
 use wave::state::BLOCK_NUMBERS;

@@ -1,24 +1,24 @@
 // Opening a block: IF and LOOP.
 use crate::rules::going::after_place;
 use lanes::Lanes;
+use lanes::said::BEFORE_ELSE;
 use lanes::said::Block;
+use lanes::said::LOOP;
+use lanes::said::NESTING;
 use lanes::without;
 use wave::state::AGAIN;
 use wave::state::ASIDE;
-use wave::state::BEFORE_ELSE;
 use wave::state::BLOCK_NUMBERS;
 use wave::state::ENTERED;
 use wave::state::Hot;
 use wave::state::LEFT;
-use wave::state::LOOP;
-use wave::state::NESTING;
 use wave::state::OPENER;
 use wave::state::PATH_NUMBERS;
 use wave::state::depth_of;
 use wave::state::whole;
 ghost use mathlib.Core.Path.{_≡_};
 ghost use Prim.Native.Nat.{_<_};
-ghost use Rattle.blocks.specs.Open.{nesting};
+ghost use Rattle.lanes.specs.Blocks.{nesting};
 ghost use Rattle.wave.specs.Layout.{put};
 ghost use Rattle.wave.specs.Wave.{Does};
 ghost use Rattle.control.specs.Rules.{ifRule, loopRule};

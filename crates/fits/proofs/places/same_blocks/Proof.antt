@@ -3,7 +3,7 @@ use mathlib.Core.Path.{_≡_, refl, _∙_}
 use mathlib.Core.Bool.{_&&_}
 use Prim.Native.Nat.{_≤_}
 use native.Mathlib.Omega.{arith}
-use Rattle.blocks.specs.Open.{nesting}
+use Rattle.lanes.specs.Blocks.{nesting}
 use Rattle.fits.specs.FitsTest.{sameBlocks}
 use Rattle.fits.proofs.Comparing.{same-next, same-end}
 use Rattle.fits.proofs.places.same_blocks.Statement.{statement}

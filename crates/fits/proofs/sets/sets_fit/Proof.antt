@@ -4,7 +4,7 @@ use mathlib.Core.Bool.{_&&_}
 use Prim.Native.Nat.{_≤_}
 use native.Mathlib.Nat.{min-le-right}
 use native.Mathlib.Omega.{arith}
-use Rattle.blocks.specs.Open.{nesting}
+use Rattle.lanes.specs.Blocks.{nesting}
 use Rattle.wave.specs.Layout.{opened}
 use Rattle.fits.specs.FitsTest.{pathTest}
 use Rattle.fits.proofs.Testing.{test-next, test-end}

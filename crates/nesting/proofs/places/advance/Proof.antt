@@ -3,8 +3,8 @@ use native.Mathlib.Omega.{arith}
 use mathlib.Core.Path.{refl}
 use Prim.Native.Nat.{_-_}
 use lib.Dec.{ltb}
+use Rattle.lanes.specs.Blocks.{nesting}
 use Rattle.blocks.specs.Code.{codeOf}
-use Rattle.blocks.specs.Open.{nesting}
 use Rattle.blocks.proofs.Widths.{code-fits}
 use Rattle.blocks.proofs.Judging.{turned}
 use Rattle.nesting.proofs.Advances.{Ready, stopped, on, on-ok, close, enter, enter-ok, stop}

@@ -4,7 +4,7 @@ use mathlib.Core.Path.{_≡_, refl}
 use native.Mathlib.Omega.{arith}
 use lib.ListN.{length}
 use borrow.Author.Needs.{needs}
-use Rattle.blocks.specs.Open.{nesting}
+use Rattle.lanes.specs.Blocks.{nesting}
 use Rattle.wave.specs.Layout.{pathNumbers}
 use Rattle.replay_capture.proofs.report.put_blocks.Statement.{statement}
 use Rattle.replay_capture.proofs.report.put_blocks.Tie as tie

@@ -4,7 +4,7 @@ use Prim.Native.Nat.{_≤_, _-_}
 use native.Mathlib.Nat.{min-le-right}
 use native.Mathlib.Omega.{arith}
 use lib.ListN.{length, length-set}
-use Rattle.blocks.specs.Open.{nesting}
+use Rattle.lanes.specs.Blocks.{nesting}
 use Rattle.wave.specs.Layout.{pathNumbers}
 use Rattle.wave.proofs.Tidying.{wiped, wipe-more, wipe-end, tidy-end}
 use Rattle.wave.proofs.state.tidy.Statement.{statement}

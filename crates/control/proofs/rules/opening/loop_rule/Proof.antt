@@ -1,7 +1,7 @@
 -- LOOP: six stores put one block more above the open ones, where there is room.
 use mathlib.Core.Path.{refl}
+use Rattle.lanes.specs.Blocks.{loopPart}
 use Rattle.lanes.specs.declared.said.Block.{Block}
-use Rattle.wave.specs.Layout.{loopPart}
 use Rattle.control.specs.Rules.{loopRule, opening}
 use Rattle.control.proofs.Ruling.{Begun, full, opened-one}
 use borrow.Author.Needs.{needs}
