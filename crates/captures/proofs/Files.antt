@@ -2,7 +2,7 @@
 -- are the file's.
 use mathlib.Core.Path.{_≡_, refl, sym, ap, _∙_}
 use Prim.Native.Nat.{ℕ, _<_}
-use mathlib.Core.Bool.{true, _||_, or-true}
+use mathlib.Core.Bool.{Bool, true, _||_, or-true}
 use mathlib.Core.Logic.{⊎-elim}
 use mathlib.Core.List.{List, [], _∷_, _++_, flatten, append-nil}
 use native.Mathlib.Omega.{arith}
@@ -22,47 +22,33 @@ use Rattle.captures.proofs.Parts.{end-above, place-end, parts-nth, leng
 use Rattle.captures.proofs.Laid.{fits-small, fits-shape, small-fits, length-capture}
 use Rattle.captures.proofs.Accepted.{counts-long, stateCount, Accepted}
 
--- ---- a state's count and depth, where `word` is read as the depth and d stands there
+-- ---- a state's count and depth
 
-module _ (n d word : ℕ) (same : depthWord < n → word ≡ d) where
+-- one test gives another where there are words
+with-words : (n x y : ℕ) (b : Bool) → (eqb n 0 || eqb x y) ≡ true → (x ≡ y → b ≡ true) → (eqb n 0 || b) ≡ true
+with-words n x y b e h =
+    ⊎-elim (λ (z : eqb n 0 ≡ true). rw z) (λ z. rw (h (eqb-true x y z)) (or-true (eqb n 0))) (or-cases (eqb n 0) (eqb x y) e)
+
+-- where `word` is read as the depth and d stands there
+module _ (n d word : ℕ) (read : depthWord < n → word ≡ d) where
   -- the words of a state have a state's count ...
   shape-so : (eqb n 0 || eqb n (stateSize d)) ≡ true → (eqb n 0 || eqb n (stateSize (depthOf n))) ≡ true
   unfolding depthOf
-  shape-so e =
-      ⊎-elim
-      (λ (z : eqb n 0 ≡ true). rw z)
-      (λ (z : eqb n (stateSize d) ≡ true).
-      let w = eqb-true n (stateSize d) z in
-      rw (eq-eqb n (stateSize (depthOf n)) (omega arith)) (or-true (eqb n 0)))
-      (or-cases (eqb n 0) (eqb n (stateSize d)) e)
+  shape-so e = with-words n n (stateSize d) _ e (λ w. eq-eqb n (stateSize (depthOf n)) (omega arith))
 
   -- ... and the depth that it gives
   deep-so : (eqb n 0 || eqb n (stateSize d)) ≡ true → (eqb n 0 || eqb word (depthOf n)) ≡ true
   unfolding depthOf
-  deep-so e =
-      ⊎-elim
-      (λ (z : eqb n 0 ≡ true). rw z)
-      (λ (z : eqb n (stateSize d) ≡ true).
-      let w = eqb-true n (stateSize d) z in
-      let y = same (omega arith) in
-      rw (eq-eqb word (depthOf n) (omega arith)) (or-true (eqb n 0)))
-      (or-cases (eqb n 0) (eqb n (stateSize d)) e)
+  deep-so e = with-words n n (stateSize d) _ e (λ w. let y = read (omega arith) in eq-eqb word (depthOf n) (omega arith))
 
   -- words with both are a state's
   state-so : (eqb n 0 || eqb n (stateSize (depthOf n))) ≡ true → (eqb n 0 || eqb word (depthOf n)) ≡ true
       → (eqb n 0 || eqb n (stateSize d)) ≡ true
   state-so e k =
-      ⊎-elim
-      (λ (z : eqb n 0 ≡ true). rw z)
-      (λ (z : eqb n (stateSize (depthOf n)) ≡ true).
-      ⊎-elim
-      (λ (y : eqb n 0 ≡ true). rw y)
-      (λ (y : eqb word (depthOf n) ≡ true).
+      ⊎-elim (λ (z : eqb n 0 ≡ true). rw z)
+      (λ z.
       let w = eqb-true n (stateSize (depthOf n)) z in
-      let x = eqb-true word (depthOf n) y in
-      let v = same (omega arith) in
-      rw (eq-eqb n (stateSize d) (omega arith)) (or-true (eqb n 0)))
-      (or-cases (eqb n 0) (eqb word (depthOf n)) k))
+      with-words n word (depthOf n) _ k (λ x. let y = read (omega arith) in eq-eqb n (stateSize d) (omega arith)))
       (or-cases (eqb n 0) (eqb n (stateSize (depthOf n))) e)
 
 -- the state of a file: how many words it has, and its depth

@@ -10,7 +10,7 @@ pub struct Head {
     pub budget: u32,
 }
 
-// How many words there are of each part, or room for.
+// How many words there are of each part.
 pub struct Counts {
     pub code: usize,
     pub registers: usize,
