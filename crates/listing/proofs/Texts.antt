@@ -18,7 +18,7 @@ use Rattle.dayfile.specs.Day.{mostRecords, page, countOf}
 use Rattle.dayfile.specs.Read.{bodiesOf, refusalOf, firstsOf, counted, firstsIn}
 use Rattle.dayfile.proofs.Layouts.{page-lawful}
 use Rattle.dayfile.proofs.Lists.{count-bodies, accepted-listed}
-use Rattle.dayfile.proofs.Records.{file-room, length-firsts, count-says, refused-count-says}
+use Rattle.dayfile.proofs.Records.{file-room, length-firsts, firsts-say}
 use Rattle.dayfile.specs.declared.answer.CountAnswer.{CountAnswer}
 use Rattle.dayfile.specs.declared.answer.CountAnswer.the-variants.{Count, Refused as NotCounted}
 use Rattle.listing.specs.Decimal.{field}
@@ -91,7 +91,7 @@ module _ (f o out : List ℕ) (r : CountAnswer) (room : length o ≡ mostRecords
 
   pub firsts-counted : (n : ℕ) → r ≡ Count n → Counted f n out
   firsts-counted n h =
-      let c = count-says page f o fits n (ap (λ (a : CountAnswer). counted a out) (sym h) ∙ e) in
+      let c = firsts-say page f o fits (ap (λ (a : CountAnswer). counted a out) (sym h) ∙ e) in
       let fs = firstsOf (bodiesOf page f) in
       let l : length fs ≡ countOf f = length-firsts (bodiesOf page f) ∙ count-bodies page f in
       let k = fits (c .0) in
@@ -103,4 +103,4 @@ module _ (f o out : List ℕ) (r : CountAnswer) (room : length o ≡ mostRecords
       }
 
   pub firsts-not : (x : Refusal) → r ≡ NotCounted x → (refusalOf page f ≡ 0 → ⊥) × (x .number ≡ refusalOf page f)
-  firsts-not x h = refused-count-says page f o fits x (ap (λ (a : CountAnswer). counted a out) (sym h) ∙ e)
+  firsts-not x h = firsts-say page f o fits (ap (λ (a : CountAnswer). counted a out) (sym h) ∙ e)
