@@ -10,7 +10,7 @@ use Rattle.blocks.specs.declared.rules.Inside.{Inside}
 use Rattle.blocks.specs.declared.places.Stack.{Stack}
 use Rattle.blocks.specs.declared.places.Moved.{Moved}
 use Rattle.blocks.specs.Open.{Part, before, after, looping, Open, partNumber, partNumberOf, openerOf}
-use Rattle.lanes.specs.Blocks.{nesting}
+use Rattle.lanes.specs.Blocks.{nesting, beforeElse, afterElse, loopPart}
 use Rattle.blocks.specs.Scan.{Next, over, go, ended}
 use Rattle.blocks.specs.OpenAt.{loops, filled}
 use Rattle.blocks.specs.Levels.{around}
@@ -35,7 +35,7 @@ abbrev pub insideNumber : Inside → ℕ
 insideNumber inside = partNumber (partOf inside)
 
 abbrev pub insideFrom : ℕ → Inside
-insideFrom n = cond (eqb n 1) Inside.Before (cond (eqb n 2) Inside.After (cond (eqb n 3) Inside.Loop Inside.Nothing))
+insideFrom n = cond (eqb n beforeElse) Inside.Before (cond (eqb n afterElse) Inside.After (cond (eqb n loopPart) Inside.Loop Inside.Nothing))
 
 -- the open blocks o become n: the innermost turns to another part
 pub record Turned (inside : Inside) (o n : List Open) : Type 0 where
