@@ -7,7 +7,7 @@ use lib.ListN.{length, getD, set, length-set, getD-replicate}
 use lib.Seq.{getD-set-same, getD-set-other, set-set, set-getD}
 use lib.Dec.{ltb}
 use borrow.Author.Tests.{lt-ltb}
-use Rattle.lanes.specs.Blocks.{nesting}
+use Rattle.lanes.specs.Blocks.{nesting, loopPart}
 use Rattle.refusals.specs.Table.{Rule, broken}
 use Rattle.blocks.specs.declared.rules.Inside.{Inside}
 use Rattle.blocks.specs.declared.structure.Checked.the-variants.{Fine, Refused}
@@ -68,13 +68,13 @@ push s o k at n m h lt e f =
     }
 
 -- a loop is one more loop, an IF is not
-pub one-more : (k : Inside) (n m : ℕ) → n ≡ insideNumber k → n ≡ 3 → m + 1 ≡ oneIfLoop (partOf k) m
+pub one-more : (k : Inside) (n m : ℕ) → n ≡ insideNumber k → n ≡ loopPart → m + 1 ≡ oneIfLoop (partOf k) m
 one-more Inside.Nothing n m e f = absurd (omega arith)
 one-more Inside.Before n m e f = absurd (omega arith)
 one-more Inside.After n m e f = absurd (omega arith)
 one-more Inside.Loop n m e f = refl
 
-pub no-more : (k : Inside) (n m : ℕ) → n ≡ insideNumber k → (n ≡ 3 → ⊥) → m ≡ oneIfLoop (partOf k) m
+pub no-more : (k : Inside) (n m : ℕ) → n ≡ insideNumber k → (n ≡ loopPart → ⊥) → m ≡ oneIfLoop (partOf k) m
 no-more Inside.Nothing n m e f = refl
 no-more Inside.Before n m e f = refl
 no-more Inside.After n m e f = refl
@@ -125,23 +125,23 @@ pop-none s [] h e = h
 pop-none s (open-at k p ∷ o) h e = absurd (omega (arith, h .depth-is))
 
 -- a loop is one loop less, an IF is not
-less-one : (k : Part) (m : ℕ) → partNumber k ≡ 3 → oneIfLoop k m - 1 ≡ m
+less-one : (k : Part) (m : ℕ) → partNumber k ≡ loopPart → oneIfLoop k m - 1 ≡ m
 less-one before m e = absurd (omega arith)
 less-one after m e = absurd (omega arith)
 less-one looping m e = omega arith
 
-less-none : (k : Part) (m : ℕ) → (partNumber k ≡ 3 → ⊥) → oneIfLoop k m ≡ m
+less-none : (k : Part) (m : ℕ) → (partNumber k ≡ loopPart → ⊥) → oneIfLoop k m ≡ m
 less-none before m e = refl
 less-none after m e = refl
 less-none looping m e = absurd (e refl)
 
 -- how many loops are open under the innermost block
-pub pop-loop : (s : Stack) (o : List Open) → Holds s o → (s .depth ≡ 0 → ⊥) → getD (s .parts) (s .depth - 1) 0 ≡ 3 → s .loops - 1 ≡ loops (around o)
+pub pop-loop : (s : Stack) (o : List Open) → Holds s o → (s .depth ≡ 0 → ⊥) → getD (s .parts) (s .depth - 1) 0 ≡ loopPart → s .loops - 1 ≡ loops (around o)
 unfolding loops around
 pop-loop s [] h ne e = absurd (ne (h .depth-is))
 pop-loop s (open-at k p ∷ o) h ne e = ap (λ (n : ℕ). n - 1) (h .loops-is) ∙ less-one k (loops o) (sym (read-part s k p o h) ∙ e)
 
-pub pop-other : (s : Stack) (o : List Open) → Holds s o → (s .depth ≡ 0 → ⊥) → (getD (s .parts) (s .depth - 1) 0 ≡ 3 → ⊥) → s .loops ≡ loops (around o)
+pub pop-other : (s : Stack) (o : List Open) → Holds s o → (s .depth ≡ 0 → ⊥) → (getD (s .parts) (s .depth - 1) 0 ≡ loopPart → ⊥) → s .loops ≡ loops (around o)
 unfolding loops around
 pop-other s [] h ne f = absurd (ne (h .depth-is))
 pop-other s (open-at k p ∷ o) h ne f = h .loops-is ∙ less-none k (loops o) (λ e. f (read-part s k p o h ∙ e))

@@ -6,7 +6,7 @@ use mathlib.Core.Bool.{true, false, cond}
 use mathlib.Core.List.{List}
 use lib.ListN.{length}
 use lib.Dec.{eqb}
-use Rattle.lanes.specs.Blocks.{nesting}
+use Rattle.lanes.specs.Blocks.{nesting, beforeElse, afterElse, loopPart}
 use Rattle.blocks.specs.declared.rules.Inside.{Inside}
 use Rattle.nesting.specs.declared.places.Stack.{Stack}
 use Rattle.nesting.specs.declared.places.Moved.{Moved}
@@ -34,7 +34,7 @@ abbrev pub insideNumber : Inside → ℕ
 insideNumber inside = partNumber (partOf inside)
 
 abbrev pub insideFrom : ℕ → Inside
-insideFrom n = cond (eqb n 1) Inside.Before (cond (eqb n 2) Inside.After (cond (eqb n 3) Inside.Loop Inside.Nothing))
+insideFrom n = cond (eqb n beforeElse) Inside.Before (cond (eqb n afterElse) Inside.After (cond (eqb n loopPart) Inside.Loop Inside.Nothing))
 
 -- the open blocks o become n: the innermost turns to another part
 pub record Turned (inside : Inside) (o n : List Open) : Type 0 where
