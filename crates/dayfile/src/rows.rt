@@ -9,7 +9,7 @@ ghost use Rattle.dayfile.specs.Day.{tableEnd, placeOf, lengthOf};
 
 pub(crate) const COUNT_BYTES: usize = 4;
 
-const ROW_BYTES: usize = 8;
+pub(crate) const ROW_BYTES: usize = 8;
 
 // From a row's place to its length.
 const PLACE_BYTES: usize = 4;

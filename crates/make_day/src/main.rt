@@ -1,6 +1,8 @@
 // Makes a day file from bodies that lie one after another in the file that the first argument names, or on standard input where
 // there is none. The day file goes to standard output; a refusal's number and place, and what can't be read or written, go to standard
 // error.
+use dayfile::LONGEST_FILE;
+use dayfile::MOST_BYTES;
 use dayfile::answer::MakeAnswer;
 use files::Input;
 use files::read_whole;
@@ -9,14 +11,13 @@ use libc::STDERR_FILENO;
 use libc::STDIN_FILENO;
 use libc::STDOUT_FILENO;
 ghost use mathlib.Core.Path.{_≡_};
+ghost use Prim.Native.Nat.{_+_};
 ghost use lib.ListN.{length};
+ghost use Rattle.dayfile.specs.Day.{mostBytes, longestFile};
 
 // One byte more than 1,024 of the longest bodies have. So bytes that are not read change no answer: a 1,025th body is refused before it
 // is looked at.
-const BODIES_ROOM: usize = 827_393;
-
-// The table of contents and as many bodies.
-const FILE_ROOM: usize = 835_588;
+const BODIES_ROOM: usize = MOST_BYTES + 1;
 
 // Says which rule the bodies break, and where.
 fn refuse(number: u32, place: usize) {
@@ -29,15 +30,15 @@ fn refuse(number: u32, place: usize) {
 
 // Room for the bodies, and for the file. Each `ensures` gives only the length, which lending the array as a slice needs.
 fn bodies_room() -> [u8; BODIES_ROOM]
-    ensures { λ r. ⌜ 827393 ≡ length r ⌝ }
+    ensures { λ r. ⌜ mostBytes + 1 ≡ length r ⌝ }
 {
     [0; BODIES_ROOM]
 }
 
-fn file_room() -> [u8; FILE_ROOM]
-    ensures { λ r. ⌜ 835588 ≡ length r ⌝ }
+fn file_room() -> [u8; LONGEST_FILE]
+    ensures { λ r. ⌜ longestFile ≡ length r ⌝ }
 {
-    [0; FILE_ROOM]
+    [0; LONGEST_FILE]
 }
 
 // Makes the file of these bodies, and writes it.
@@ -45,7 +46,7 @@ fn make_of(bodies: &[u8]) {
     let mut file = file_room();
     match dayfile::make(bodies, &mut file) {
         MakeAnswer::Made(k) => {
-            if k <= FILE_ROOM {
+            if k <= LONGEST_FILE {
                 write_whole(b"standard output", STDOUT_FILENO, &file[..k]);
             }
         }

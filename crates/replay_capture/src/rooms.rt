@@ -2,12 +2,13 @@
 // length, which lending the array as a slice needs.
 use captures::HEADER_BYTES;
 use packing::HOT_WORDS;
+use replay::allowed::MOST_WORDS;
 use wave::state::BLOCK_NUMBERS;
 ghost use mathlib.Core.Path.{_≡_};
 ghost use lib.ListN.{length};
 
 // One word more than a run takes, so that longer code shows.
-pub(crate) const CODE_ROOM: usize = 65_537;
+pub(crate) const CODE_ROOM: usize = MOST_WORDS + 1;
 
 pub(crate) const REGISTER_ROOM: usize = 16_384;
 
