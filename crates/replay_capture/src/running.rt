@@ -17,7 +17,7 @@ ghost use Rattle.stepping.specs.Step.{registersIn};
 ghost use Rattle.stepping.specs.Answer.{answered};
 ghost use Rattle.replay.specs.Replay.{mostSteps, resumeOf};
 ghost use Rattle.runs.specs.Calls.{budgeted as withBudget, added};
-ghost use Rattle.replay_capture.specs.Starting.{startOf, stopped};
+ghost use Rattle.runs.specs.Starting.{startOf, stopped};
 
 // The steps of the first slice, soon over, and of each later one.
 const FIRST_SLICE: u32 = 1_000_000;

@@ -30,7 +30,7 @@ use Rattle.compute.specs.Values.{Target, register as to-register, predicate as 
 use Rattle.compute.specs.Values.{storeTo, atomicTo, swapTo, valueBy, resultsOf, targetBy, regsBy, changed, memoriesBy}
 use Rattle.compute.specs.Carrying.{Outcome, inShape, faultsOf, afterOf, carriedOf}
 use Rattle.runs.specs.Results.{register, turnAt, workOf, foundBy, rdOf, rs1Of, rs2Of, rs3Of, reachOf}
-use Rattle.runs.specs.Results.{resultBy, resultOf, Changes, store, atomic, cas}
+use Rattle.runs.specs.Results.{resultBy, resultOf, Highest, Changes, store, atomic, cas}
 use Rattle.compute.proofs.Lanewise.{getD-by-lane, getD-gather}
 use Rattle.compute.proofs.Writing.{written}
 use Rattle.compute.proofs.Standing.{narrow, stands-rd}
@@ -57,17 +57,21 @@ module _ (address : ℕ → ℕ) (f : ℕ → ℕ → ℕ) (t k : ℕ) (memory :
   untouched (suc n) none = other-turn n (workOf address f t n memory) (none n (omega arith)) ∙ untouched n (λ i h. none i (omega arith))
 
   -- else it is as the highest such lane left it
-  pub highest : (n j : ℕ) → j < n → has t j ≡ true → wordOf (address j) ≡ k → k < length memory
-      → ((i : ℕ) → j < i → i < n → has t i ≡ true → wordOf (address i) ≡ k → ⊥)
-      → getD (workOf address f t n memory) k 0 ≡ f j (foundBy address f t memory j)
+  pub highest : (n j : ℕ) → Highest address t n k j → k < length memory → getD (workOf address f t n memory) k 0 ≡ f j (foundBy address f t memory j)
   unfolding inOrder
-  highest zero j h e w r none = absurd (omega arith)
-  highest (suc n) j h e w r none =
+  highest zero j h r = absurd (omega (arith, h .below))
+  highest (suc n) j h r =
       elim (ℕ-discrete j n) [
-        | yes q ↦ rw (← q, e, w)
+        | yes q ↦ rw (← q, h .executes, h .names)
             (getD-set-same (workOf address f t j memory) k (f j (getD (workOf address f t j memory) k 0)) 0 (omega (arith, length-work j)))
-        | no q ↦ other-turn n (workOf address f t n memory) (none n (omega arith) (omega arith))
-            ∙ highest n j (omega arith) e w r (λ i a b. none i a (omega arith))
+        | no q ↦ other-turn n (workOf address f t n memory) (h .none-above n (omega (arith, h .below)) (omega arith))
+            ∙ highest n j
+            record {
+              below = omega (arith, h .below);
+              executes = h .executes;
+              names = h .names;
+              none-above = λ i a b. h .none-above i a (omega arith);
+            } r
       ]
 
 -- ---- what the lanes read are their registers
@@ -266,12 +270,11 @@ module _ (shape : Shape) (x : Instr) (t : ℕ) (m : Lent) where
           of-space Space.Local y g = refl
 
       -- THE HIGHEST LANE'S STORE STAYS: of the executing lanes whose address names word k
-      pub highest-stays : (k j : ℕ) → k < length (memoryOf s (m .memories)) → j < shape .width → has t j ≡ true → wordOf (reach j) ≡ k
-          → ((i : ℕ) → j < i → i < shape .width → has t i ≡ true → wordOf (reach i) ≡ k → ⊥)
+      pub highest-stays : (k j : ℕ) → k < length (memoryOf s (m .memories)) → Highest reach t (shape .width) k j
           → getD (memoryOf s (after .memories)) k 0 ≡ rdOf shape x (m .regs) j
-      highest-stays k j hk hj e w none =
+      highest-stays k j r h =
           ap (λ (l : List ℕ). getD l k 0) stored
-          ∙ highest reach (λ i old. rdOf shape x (m .regs) i) t k (memoryOf s (m .memories)) (shape .width) j hj e w hk none
+          ∙ highest reach (λ i old. rdOf shape x (m .regs) i) t k (memoryOf s (m .memories)) (shape .width) j h r
 
       -- a word that no executing lane's address names is as before
       pub word-as-before : (k : ℕ) → ((i : ℕ) → i < shape .width → has t i ≡ true → wordOf (reach i) ≡ k → ⊥)

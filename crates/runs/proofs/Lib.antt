@@ -9,3 +9,4 @@ pub mod Breaking
 pub mod Running
 pub mod StepLanes
 pub mod LaneByLane
+pub mod Slices

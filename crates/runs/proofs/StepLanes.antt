@@ -24,7 +24,7 @@ use Rattle.compute.specs.Memory.{memoryOf}
 use Rattle.compute.specs.Operands.{Lent}
 use Rattle.compute.specs.Values.{register as to-register, predicate as to-predicate, nothing as to-nothing, targetBy}
 use Rattle.compute.specs.Carrying.{Outcome, inShape}
-use Rattle.runs.specs.Results.{register, rdOf, reachOf, resultOf, Changes}
+use Rattle.runs.specs.Results.{register, rdOf, reachOf, resultOf, Highest, Changes}
 use Rattle.compute.proofs.Carrying.{control}
 use Rattle.runs.proofs.LaneByLane.{others-as-before, result-in-rd, bit-in-predicate, memory-as-before, highest-stays, word-as-before}
 use Rattle.stepping.specs.declared.settings.Settings.{Settings}
@@ -121,13 +121,10 @@ module _ (s : Settings) (f : Fetched) (m : Machine) where
 
       module _ (q : Space) (stores : x .op ≡ Op.Store q) where
         -- THE HIGHEST LANE'S STORE STAYS
-        pub step-store : (k j : ℕ) → k < length (memoryOf q (m .memories)) → j < s .width → has t j ≡ true
-            → wordOf (reachOf shape x (m .regs) j) ≡ k
-            → ((i : ℕ) → j < i → i < s .width → has t i ≡ true → wordOf (reachOf shape x (m .regs) i) ≡ k → ⊥)
+        pub step-store : (k j : ℕ) → k < length (memoryOf q (m .memories)) → Highest (reachOf shape x (m .regs)) t (s .width) k j
             → getD (memoryOf q (stepOf s f m .end .memories)) k 0 ≡ rdOf shape x (m .regs) j
-        step-store k j hk hj e w none =
-            ap (λ (y : Machine). getD (memoryOf q (y .memories)) k 0) goes
-            ∙ highest-stays shape x t lent shaped lanes-clear q stores k j hk hj e w none
+        step-store k j r h =
+            ap (λ (y : Machine). getD (memoryOf q (y .memories)) k 0) goes ∙ highest-stays shape x t lent shaped lanes-clear q stores k j r h
 
         -- and a word that no executing lane's address names is as before
         pub step-word : (k : ℕ) → ((i : ℕ) → i < s .width → has t i ≡ true → wordOf (reachOf shape x (m .regs) i) ≡ k → ⊥)

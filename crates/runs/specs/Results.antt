@@ -1,7 +1,8 @@
 -- One instruction said of one lane: its result, and what the lanes make of a memory one after another, of the registers and memories as they
 -- were before the instruction. Page 01, "One step".
-use Prim.Native.Nat.{ℕ}
-use mathlib.Core.Bool.{cond}
+use Prim.Native.Nat.{ℕ, _<_}
+use mathlib.Core.Path.{_≡_}
+use mathlib.Core.Bool.{true, cond}
 use mathlib.Core.List.{List}
 use lib.ListN.{getD, set}
 use Rattle.ground.specs.Lists.{inOrder}
@@ -68,6 +69,13 @@ resultBy (Op.Control o) shape x t m i = 0
 
 abbrev pub resultOf : Shape → Instr → ℕ → Lent → ℕ → ℕ
 resultOf shape x t m i = resultBy (x .op) shape x t m i
+
+-- lane j is the highest executing lane below n whose address names word k
+pub record Highest (address : ℕ → ℕ) (t n k j : ℕ) : Type 0 where
+  pub below : j < n
+  pub executes : has t j ≡ true
+  pub names : wordOf (address j) ≡ k
+  pub none-above : (i : ℕ) → j < i → i < n → has t i ≡ true → wordOf (address i) ≡ k → ⊥
 
 -- the memory that an operation changes
 pub data Changes : Op → Space → Type 0 where

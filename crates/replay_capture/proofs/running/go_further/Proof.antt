@@ -2,7 +2,7 @@
 use mathlib.Core.Path.{ap}
 use native.Mathlib.Omega.{arith}
 use Rattle.runs.specs.Calls.{added}
-use Rattle.replay_capture.proofs.Slices.{resumed-most}
+use Rattle.runs.proofs.Slices.{resumed-most}
 use borrow.Author.Needs.{needs}
 use Rattle.replay_capture.proofs.running.go_further.Statement.{statement}
 use Rattle.replay_capture.proofs.running.go_further.Tie as tie

@@ -1,5 +1,5 @@
 -- By the cases of the outcome.
-use Rattle.replay_capture.specs.Starting.{stopped}
+use Rattle.runs.specs.Starting.{stopped}
 use borrow.Author.Needs.{needs}
 use Rattle.replay_capture.proofs.running.is_stopped.Statement.{statement}
 use Rattle.replay_capture.proofs.running.is_stopped.Tie as tie

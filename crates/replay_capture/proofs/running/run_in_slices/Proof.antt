@@ -7,8 +7,8 @@ use borrow.Author.Needs.{needs}
 use borrow.Author.Tests.{not-true, not-false}
 use Rattle.stepping.specs.declared.settings.Settings.{Settings}
 use Rattle.stepping.specs.Answer.{Answered, answered}
-use Rattle.replay_capture.specs.Starting.{startOf, finished}
-use Rattle.replay_capture.proofs.Slices.{Going, begun, gone-further, spent, over}
+use Rattle.runs.specs.Starting.{startOf, finished}
+use Rattle.runs.proofs.Slices.{Going, begun, gone-further, spent, over}
 use Rattle.replay_capture.proofs.running.run_in_slices.Statement.{statement}
 use Rattle.replay_capture.proofs.running.run_in_slices.Tie as tie
 

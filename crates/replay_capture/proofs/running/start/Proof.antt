@@ -1,5 +1,5 @@
 -- By the test.
-use Rattle.replay_capture.specs.Starting.{startOf}
+use Rattle.runs.specs.Starting.{startOf}
 use borrow.Author.Needs.{needs}
 use Rattle.replay_capture.proofs.running.start.Statement.{statement}
 use Rattle.replay_capture.proofs.running.start.Tie as tie

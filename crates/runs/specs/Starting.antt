@@ -1,4 +1,4 @@
--- What the run of a capture answers, in one call or in slices.
+-- What a run answers, in one call or in slices: a launch or going on, and what is left of it gone on with.
 use Prim.Native.Nat.{ℕ, zero, suc}
 use mathlib.Core.Bool.{Bool, true, false}
 use mathlib.Core.List.{List}

@@ -20,11 +20,11 @@ use Rattle.stepping.specs.Machine.{Machine}
 use Rattle.stepping.specs.Run.{Ran, endedOf, stepAt, runOf}
 use Rattle.stepping.specs.Answer.{Answered, ending, runFrom, stateMachine}
 use Rattle.replay.specs.Replay.{mostSteps, launchTest, resumeTest, byTest, notLaunched, launchMachine, launchOf, resumeOf}
 use Rattle.runs.specs.Calls.{budgeted, resumedWith, added}
 use Rattle.stepping.proofs.Runs.{at-ended, at-budget, at-fault, at-clear}
 use Rattle.runs.proofs.Adding.{following, runs-add}
 use Rattle.runs.proofs.Returns.{run-budgeted, launch-adds, resume-adds}
-use Rattle.replay_capture.specs.Starting.{startOf, stopped, goneOn, finished}
+use Rattle.runs.specs.Starting.{startOf, stopped, goneOn, finished}
 
 -- ---- a run makes no more steps than its budget
 module _ (s : Settings) (code : List ℕ) where
