@@ -6,32 +6,18 @@ use Prim.Native.Nat.{ℕ}
 use lib.IntN.{ℤ}
 use Rattle.instructions.specs.declared.instr.TwoOp.{TwoOp}
 use Rattle.instructions.specs.declared.instr.OneOp.{OneOp}
-use Rattle.instructions.specs.declared.instr.CompareOp.{CompareOp}
-use Rattle.instructions.specs.declared.instr.AtomicOp.{AtomicOp}
-use Rattle.arith.specs.Arith.{signed, register, less, addressOf, twoOf, divides, oneOf, compareOf, atomicOf, swapOf}
+use Rattle.arith.specs.Arith.{signed, register, less, addressOf, twoOf, oneOf}
 
--- two; add, sub, mul, mulhi, div, rem, udiv, urem, min, max, shl, shr, sar
+-- add, sub, mul, mulhi, div, rem, udiv, urem, min, max, shl, shr, sar
 pub two-once : (op : TwoOp) (m n r q : ℕ) → r ≡ twoOf op m n → q ≡ twoOf op m n → r ≡ q
 two-once op m n r q a b = a ∙ sym b
 
--- one; neg, abs, ones
+-- neg, abs, ones
 pub one-once : (op : OneOp) (n r q : ℕ) → r ≡ oneOf op n → q ≡ oneOf op n → r ≡ q
 one-once op n r q a b = a ∙ sym b
 
-pub compare-once : (op : CompareOp) (m n : ℕ) (r q : Bool) → r ≡ compareOf op m n → q ≡ compareOf op m n → r ≡ q
-compare-once op m n r q a b = a ∙ sym b
-
-pub atomic-once : (op : AtomicOp) (old v r q : ℕ) → r ≡ atomicOf op old v → q ≡ atomicOf op old v → r ≡ q
-atomic-once op old v r q a b = a ∙ sym b
-
-pub swap-once : (old expected desired r q : ℕ) → r ≡ swapOf old expected desired → q ≡ swapOf old expected desired → r ≡ q
-swap-once old expected desired r q a b = a ∙ sym b
-
 pub address-once : (base offset r q : ℕ) → r ≡ addressOf base offset → q ≡ addressOf base offset → r ≡ q
 address-once base offset r q a b = a ∙ sym b
-
-pub divides-once : (op : TwoOp) (r q : Bool) → r ≡ divides op → q ≡ divides op → r ≡ q
-divides-once op r q a b = a ∙ sym b
 
 pub less-once : (m n : ℕ) (r q : Bool) → r ≡ less m n → q ≡ less m n → r ≡ q
 less-once m n r q a b = a ∙ sym b

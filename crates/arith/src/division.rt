@@ -1,37 +1,12 @@
 // Quotients and remainders. By zero the quotient is 0 and the remainder the dividend. One signed quotient, of the least number by -1,
 // is no signed number: it is handled apart.
 ghost use mathlib.Core.Path.{_≡_};
-ghost use Rattle.arith.specs.Arith as arith;
 ghost use Rattle.arith.specs.Arith.{twoOf};
 use crate::signed::LEAST;
 use crate::signed::MINUS_ONE;
 use crate::signed::to_register;
 use crate::signed::to_signed;
 use instructions::instr::TwoOp;
-
-// Whether the operation faults on a divisor of zero.
-pub fn divides(op: TwoOp) -> bool
-    ensures { λ r. ⌜ r ≡ arith.divides op ⌝ }
-{
-    match op {
-        TwoOp::Add => false,
-        TwoOp::Sub => false,
-        TwoOp::Mul => false,
-        TwoOp::Div => true,
-        TwoOp::Udiv => true,
-        TwoOp::Rem => true,
-        TwoOp::Urem => true,
-        TwoOp::Min => false,
-        TwoOp::Max => false,
-        TwoOp::Mulhi => false,
-        TwoOp::And => false,
-        TwoOp::Or => false,
-        TwoOp::Xor => false,
-        TwoOp::Shl => false,
-        TwoOp::Shr => false,
-        TwoOp::Sar => false,
-    }
-}
 
 // The signed quotient, cut toward zero; 80000000 by FFFFFFFF is 80000000.
 pub fn div(a: u32, b: u32) -> u32

@@ -1,12 +1,12 @@
 // Every operation on corner values, as text: a line for each operation and first operand, with the results over the second.
 // tests/arith_cases.py works the same lines out from page 01.
-use arith::division::divides;
 use arith::sums::address;
 use instructions::instr::AtomicOp;
 use instructions::instr::CompareOp;
 use instructions::instr::OneOp;
 use instructions::instr::TwoOp;
 use libc::STDOUT_FILENO;
+use operations::divides;
 
 // How many corner values there are.
 const CORNERS: u32 = 16;
@@ -54,11 +54,11 @@ fn faults(work: Work, b: u32) -> bool {
 // What the work gives. One operand is `b` alone; a swap expects `b`, desires 5, and finds `a`.
 fn answer(work: Work, a: u32, b: u32) -> u32 {
     match work {
-        Work::Two(op) => arith::two(op, a, b),
-        Work::One(op) => arith::one(op, b),
-        Work::Compare(op) => if arith::compare(op, a, b) { 1 } else { 0 },
-        Work::Atomic(op) => arith::atomic(op, a, b),
-        Work::Swap => arith::swap(a, b, 5),
+        Work::Two(op) => operations::two(op, a, b),
+        Work::One(op) => operations::one(op, b),
+        Work::Compare(op) => if operations::compare(op, a, b) { 1 } else { 0 },
+        Work::Atomic(op) => operations::atomic(op, a, b),
+        Work::Swap => operations::swap(a, b, 5),
         Work::Address => address(a, b),
     }
 }

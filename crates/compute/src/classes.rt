@@ -54,7 +54,7 @@ fn dividing_faults(op: TwoOp, t: Lanes, shape: Shape, regs: &[u32], rs2: u8) -> 
     requires { ⌜ Stands shape (lanesIn shape (now regs)) rs2 ⌝ }
     ensures { λ r. ⌜ r ≡ dividingFaults op shape (lanesIn shape (now (regs .entry))) rs2 t ⌝ }
 {
-    if arith::division::divides(op) {
+    if operations::divides(op) {
         return divisor_faults(gather(shape, regs, rs2), t, shape.width);
     }
     no_faults()

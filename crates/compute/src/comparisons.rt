@@ -25,7 +25,7 @@ fn compare_lanes(op: CompareOp, shape: Shape, regs: &[u32], rs1: u8, rs2: u8) ->
         let p = slot(shape, i, rs1);
         let q = slot(shape, i, rs2);
         let k = i as usize;
-        out[k] = chosen(arith::compare(op, regs[p], regs[q]), 1, 0);
+        out[k] = chosen(operations::compare(op, regs[p], regs[q]), 1, 0);
         i += 1;
     }
     out

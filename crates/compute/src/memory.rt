@@ -110,8 +110,8 @@ fn changed(change: Change, old: u32, operand: u32, desired: u32) -> u32
     ensures { λ r. ⌜ r ≡ changeOf change old operand desired ⌝ }
 {
     match change {
-        Change::Atomic(op) => arith::atomic(op, old, operand),
-        Change::Swap => arith::swap(old, operand, desired),
+        Change::Atomic(op) => operations::atomic(op, old, operand),
+        Change::Swap => operations::swap(old, operand, desired),
     }
 }
 

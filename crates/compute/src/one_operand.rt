@@ -18,7 +18,7 @@ fn one_lanes(op: OneOp, shape: Shape, regs: &[u32], rs1: u8) -> ByLane
     while i < width {
         let p = slot(shape, i, rs1);
         let k = i as usize;
-        out[k] = arith::one(op, regs[p]);
+        out[k] = operations::one(op, regs[p]);
         i += 1;
     }
     out

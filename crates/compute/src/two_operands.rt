@@ -20,7 +20,7 @@ fn two_lanes(op: TwoOp, shape: Shape, regs: &[u32], rs1: u8, rs2: u8) -> ByLane
         let p = slot(shape, i, rs1);
         let q = slot(shape, i, rs2);
         let k = i as usize;
-        out[k] = arith::two(op, regs[p], regs[q]);
+        out[k] = operations::two(op, regs[p], regs[q]);
         i += 1;
     }
     out

@@ -1,8 +1,8 @@
--- `arith::swap` meets its contract.
+-- `operations::swap` meets its contract.
 use mathlib.Core.Path.{refl}
 use borrow.Author.Tests.{eq-eqb, ne-eqb}
-use Rattle.arith.proofs.swap.Statement.{statement}
-use Rattle.arith.proofs.swap.Tie as tie
+use Rattle.operations.proofs.swap.Statement.{statement}
+use Rattle.operations.proofs.swap.Tie as tie
 
 returns : tie.Need-returns
 returns c = rw (eq-eqb _ _ (c .if1 .taken)) refl

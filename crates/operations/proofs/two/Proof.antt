@@ -1,8 +1,8 @@
--- `arith::two` meets its contract: each arm goes by what the function that it calls ensures.
+-- `operations::two` meets its contract: each arm goes by what the function that it calls ensures.
 use mathlib.Core.Path.{refl}
 use borrow.Author.Needs.{needs}
-use Rattle.arith.proofs.two.Statement.{statement}
-use Rattle.arith.proofs.two.Tie as tie
+use Rattle.operations.proofs.two.Statement.{statement}
+use Rattle.operations.proofs.two.Tie as tie
 
 returns : tie.Need-returns
 returns c = rw (c .before .enum-told .given .1) (c .add .ensures)

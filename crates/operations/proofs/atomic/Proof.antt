@@ -1,9 +1,9 @@
--- `arith::atomic` meets its contract: each arm goes by what the function that it calls ensures, or by its test.
+-- `operations::atomic` meets its contract: each arm goes by what the function that it calls ensures, or by its test.
 use mathlib.Core.Path.{refl}
 use borrow.Author.Tests.{lt-ltb, le-ltb}
 use borrow.Author.Needs.{needs}
-use Rattle.arith.proofs.atomic.Statement.{statement}
-use Rattle.arith.proofs.atomic.Tie as tie
+use Rattle.operations.proofs.atomic.Statement.{statement}
+use Rattle.operations.proofs.atomic.Tie as tie
 
 returns : tie.Need-returns
 returns c = rw (c .before .enum-told .given .1) (c .add .ensures)

@@ -1,9 +1,9 @@
--- `arith::compare` meets its contract: each arm is a test, or goes by what `less` answers.
+-- `operations::compare` meets its contract: each arm is a test, or goes by what `less` answers.
 use mathlib.Core.Path.{refl, ap}
 use mathlib.Core.Bool.{not}
 use borrow.Author.Needs.{needs}
-use Rattle.arith.proofs.compare.Statement.{statement}
-use Rattle.arith.proofs.compare.Tie as tie
+use Rattle.operations.proofs.compare.Statement.{statement}
+use Rattle.operations.proofs.compare.Tie as tie
 
 returns : tie.Need-returns
 returns c = rw (c .enum-told .given .1) refl

@@ -1,8 +1,8 @@
--- `arith::one` meets its contract: each arm goes by what the function that it calls ensures.
+-- `operations::one` meets its contract: each arm goes by what the function that it calls ensures.
 use mathlib.Core.Path.{refl}
 use borrow.Author.Needs.{needs}
-use Rattle.arith.proofs.one.Statement.{statement}
-use Rattle.arith.proofs.one.Tie as tie
+use Rattle.operations.proofs.one.Statement.{statement}
+use Rattle.operations.proofs.one.Tie as tie
 
 returns : tie.Need-returns
 returns c = rw (c .before .enum-told .given .1) (c .neg .ensures)
