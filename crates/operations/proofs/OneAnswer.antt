@@ -1,21 +1,14 @@
--- One answer to each promise: any two results that it allows are equal. A law for each public function.
+-- Each promise of the crate allows one answer. That of `two` and `one` is said by `arith` `OneAnswer.two-once` and `one-once`.
 use mathlib.Core.Path.{_≡_, sym, _∙_}
 use mathlib.Core.Bool.{Bool}
 use Prim.Native.Nat.{ℕ}
 use Rattle.instructions.specs.declared.instr.TwoOp.{TwoOp}
-use Rattle.instructions.specs.declared.instr.OneOp.{OneOp}
 use Rattle.instructions.specs.declared.instr.CompareOp.{CompareOp}
 use Rattle.instructions.specs.declared.instr.AtomicOp.{AtomicOp}
-use Rattle.arith.specs.Arith.{twoOf, divides, oneOf, compareOf, atomicOf, swapOf}
-
-pub two-once : (op : TwoOp) (m n r q : ℕ) → r ≡ twoOf op m n → q ≡ twoOf op m n → r ≡ q
-two-once op m n r q a b = a ∙ sym b
+use Rattle.arith.specs.Arith.{divides, compareOf, atomicOf, swapOf}
 
 pub divides-once : (op : TwoOp) (r q : Bool) → r ≡ divides op → q ≡ divides op → r ≡ q
 divides-once op r q a b = a ∙ sym b
-
-pub one-once : (op : OneOp) (n r q : ℕ) → r ≡ oneOf op n → q ≡ oneOf op n → r ≡ q
-one-once op n r q a b = a ∙ sym b
 
 pub compare-once : (op : CompareOp) (m n : ℕ) (r q : Bool) → r ≡ compareOf op m n → q ≡ compareOf op m n → r ≡ q
 compare-once op m n r q a b = a ∙ sym b
