@@ -7,6 +7,7 @@ pub mod Returns
 pub mod Refusing
 pub mod Breaking
 pub mod Running
+pub mod Outcomes
 pub mod StepLanes
 pub mod LaneByLane
 pub mod Slices

@@ -21,27 +21,16 @@ use Rattle.stepping.specs.Run.{Ran, endedOf, stepAt, runOf}
 use Rattle.stepping.specs.Answer.{Answered, ending, runFrom, stateMachine}
 use Rattle.replay.specs.Replay.{mostSteps, launchTest, resumeTest, byTest, notLaunched, launchMachine, launchOf, resumeOf}
 use Rattle.runs.specs.Calls.{budgeted, resumedWith, added}
-use Rattle.stepping.proofs.Runs.{at-ended, at-budget, at-fault, at-clear}
+use Rattle.stepping.proofs.Runs.{steps-most}
 use Rattle.runs.proofs.Adding.{following, runs-add}
 use Rattle.runs.proofs.Returns.{run-budgeted, launch-adds, resume-adds}
 use Rattle.runs.specs.Starting.{startOf, stopped, goneOn, finished}
 
 -- ---- a run makes no more steps than its budget
 module _ (s : Settings) (code : List ℕ) where
-  run-most : (b : ℕ) (m : Machine) → runOf s code b m .steps ≤ b
-  run-most zero m =
-      ⊎-elim (λ e. rw (at-ended s code 0 m e) (omega arith)) (λ e. rw (at-budget s code m e) (omega arith)) (true-or-false (endedOf s code m))
-  run-most (suc b) m =
-      ⊎-elim (λ e. rw (at-ended s code (suc b) m e) (omega arith))
-      (λ e.
-      ⊎-elim (λ c. rw (at-clear s code b m e c) (omega (arith, run-most b (stepAt s code m .end))))
-      (λ c. rw (at-fault s code b m e c) (omega arith))
-      (true-or-false (clear (stepAt s code m .faults))))
-      (true-or-false (endedOf s code m))
-
   tested-most : (v : Checked) (b : ℕ) (m : Machine) (state : State) (regs : List ℕ) (y : Memories)
       → byTest v (λ (u : Unit {0}). ending (runOf s code b m)) state regs y .steps ≤ b
-  tested-most Checked.Fine b m state regs y = run-most b m
+  tested-most Checked.Fine b m state regs y = steps-most s code b m
   tested-most (Checked.Refused r) b m state regs y = omega arith
 
   resume-most : (state : State) (regs device local : List ℕ) → resumeOf s state code regs device local .steps ≤ s .budget
