@@ -7,9 +7,9 @@ use crate::format::give_words;
 use crate::format::low;
 use crate::format::mark;
 use crate::format::number;
-use dayfile::answer::CountAnswer;
 use dayfile::answer::MakeAnswer;
-use dayfile::answer::ReadAnswer;
+use records::answer::CountAnswer;
+use records::answer::ReadAnswer;
 use std::num::wrapping_add_usize;
 
 // Makes a day file in a room of A5.
@@ -44,7 +44,7 @@ pub(crate) fn answer_make(case: &[u8], out: &mut [u8]) -> usize {
 // The count of a file's records.
 fn give_count(out: &mut [u8], file: &[u8]) -> usize {
     let mut firsts = [0u32; dayfile::MOST_RECORDS];
-    match dayfile::firsts(file, &mut firsts) {
+    match records::firsts(file, &mut firsts) {
         CountAnswer::Count(n) => give_length(out, 0, 0, 0, n),
         CountAnswer::Refused(refusal) => give_length(out, 0, refusal.number, refusal.place, 0),
     }
@@ -52,7 +52,7 @@ fn give_count(out: &mut [u8], file: &[u8]) -> usize {
 
 // What is said of record i.
 fn give_record(out: &mut [u8], at: usize, file: &[u8], i: usize) -> usize {
-    match dayfile::read(file, i) {
+    match records::read(file, i) {
         ReadAnswer::Record {
             place,
             length,

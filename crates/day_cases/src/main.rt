@@ -7,10 +7,10 @@
 // tests/day_files.py makes the cases, and answers them from the page.
 use body::BodyAnswer;
 use dayfile::answer::MakeAnswer;
-use dayfile::answer::ReadAnswer;
 use libc::STDIN_FILENO;
 use libc::STDOUT_FILENO;
 use numbers::get;
+use records::answer::ReadAnswer;
 ghost use mathlib.Core.Path.{_≡_};
 ghost use Prim.Native.Nat.{_<_};
 ghost use lib.ListN.{length};
@@ -46,7 +46,7 @@ fn answer_body(bytes: &[u8], at: usize) {
 }
 
 fn answer_read(bytes: &[u8], i: usize) {
-    match dayfile::read(bytes, i) {
+    match records::read(bytes, i) {
         ReadAnswer::Record {
             place,
             length,

@@ -7,7 +7,7 @@ ghost use Rattle.numbers.specs.Numbers.{bytesOf};
 ghost use Rattle.numbers.specs.Placed.{placed};
 ghost use Rattle.dayfile.specs.Day.{tableEnd, placeOf, lengthOf};
 
-pub(crate) const COUNT_BYTES: usize = 4;
+pub const COUNT_BYTES: usize = 4;
 
 pub(crate) const ROW_BYTES: usize = 8;
 
@@ -15,7 +15,7 @@ pub(crate) const ROW_BYTES: usize = 8;
 const PLACE_BYTES: usize = 4;
 
 // Where a table of n rows ends, and row n would stand.
-pub(crate) fn table_end(n: u32) -> usize
+pub fn table_end(n: u32) -> usize
     ensures { λ r. ⌜ r ≡ tableEnd n ⌝ }
 {
     COUNT_BYTES + ROW_BYTES * (n as usize)

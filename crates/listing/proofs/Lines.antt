@@ -15,11 +15,12 @@ use Rattle.numbers.specs.Placed.{Puts}
 use Rattle.numbers.proofs.Placing.{puts-join, puts-same, Putting, putting-start, putting-turn, putting-end}
 use Rattle.body.specs.Body.{partsAt}
 use Rattle.body.specs.Layout.{isBody}
-use Rattle.dayfile.specs.Day.{mostRecords, page, countOf, placeOf, lengthOf}
-use Rattle.dayfile.specs.Read.{bodiesOf, refusalOf, firstsOf}
+use Rattle.dayfile.specs.Day.{mostRecords, page, countOf, placeOf, lengthOf, bodiesOf}
 use Rattle.dayfile.proofs.Layouts.{page-lawful}
-use Rattle.dayfile.proofs.Lists.{all-first, all-rest, count-bodies, accepted-listed}
-use Rattle.dayfile.proofs.Records.{record-here, length-firsts}
+use Rattle.dayfile.proofs.Lists.{all-first, all-rest, count-bodies}
+use Rattle.records.specs.Read.{refusalOf, firstsOf}
+use Rattle.records.proofs.Accepted.{accepted-listed}
+use Rattle.records.proofs.Records.{record-here, length-firsts}
 use Rattle.listing.specs.Decimal.{field}
 use Rattle.listing.specs.Rooms.{lineBytes}
 use Rattle.listing.specs.Text.{space, newline, kindsText, line, lines, distinct}

@@ -14,13 +14,14 @@ use Rattle.ground.proofs.Choices.{cond-by}
 use Rattle.numbers.specs.Placed.{Puts}
 use Rattle.numbers.proofs.Placing.{placed-front, length-placed, puts-join, puts-same}
 use Rattle.body.specs.Layout.{isBody}
-use Rattle.dayfile.specs.Day.{mostRecords, page, countOf}
-use Rattle.dayfile.specs.Read.{bodiesOf, refusalOf, firstsOf, counted, firstsIn}
+use Rattle.dayfile.specs.Day.{mostRecords, page, countOf, bodiesOf}
 use Rattle.dayfile.proofs.Layouts.{page-lawful}
-use Rattle.dayfile.proofs.Lists.{count-bodies, accepted-listed}
-use Rattle.dayfile.proofs.Records.{file-room, length-firsts, firsts-say}
-use Rattle.dayfile.specs.declared.answer.CountAnswer.{CountAnswer}
-use Rattle.dayfile.specs.declared.answer.CountAnswer.the-variants.{Count, Refused as NotCounted}
+use Rattle.dayfile.proofs.Lists.{count-bodies}
+use Rattle.records.specs.declared.answer.CountAnswer.{CountAnswer}
+use Rattle.records.specs.declared.answer.CountAnswer.the-variants.{Count, Refused as NotCounted}
+use Rattle.records.specs.Read.{refusalOf, firstsOf, counted, firstsIn}
+use Rattle.records.proofs.Accepted.{accepted-listed}
+use Rattle.records.proofs.Records.{file-room, length-firsts, firsts-say}
 use Rattle.listing.specs.Decimal.{field}
 use Rattle.listing.specs.Rooms.{totalBytes}
 use Rattle.listing.specs.Text.{mostBytes, textRoom, space, newline, lines, distinct, totalLine, tableText, textOf}

@@ -6,8 +6,8 @@ use lib.Dec.{ltb, eqb}
 use lib.ListN.{length}
 use Rattle.lanes.specs.declared.said.Fault.{Fault}
 use Rattle.body.specs.Body.{Parts, partsAt}
-use Rattle.dayfile.specs.Day.{page}
-use Rattle.dayfile.specs.Read.{bodiesOf, refusalOf, firstsOf}
+use Rattle.dayfile.specs.Day.{page, bodiesOf}
+use Rattle.records.specs.Read.{refusalOf, firstsOf}
 use Rattle.listing.specs.Decimal.{field}
 
 -- the largest file that is listed, 64 KiB, and a buffer that holds every text

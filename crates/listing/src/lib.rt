@@ -1,12 +1,12 @@
 // The listing's text of a day file.
 //
-// The file is tested once, and its records are then walked: the time is that of `dayfile::firsts`.
+// The file is tested once, and its records are then walked: the time is that of `records::firsts`.
 mod field;
 mod table;
 
-use dayfile::answer::CountAnswer;
 use field::put_field;
 use field::put_text;
+use records::answer::CountAnswer;
 use table::put_table;
 ghost use mathlib.Core.List.{_++_};
 ghost use Rattle.numbers.specs.Placed.{Puts};
@@ -36,7 +36,7 @@ pub fn list(file: &[u8], out: &mut [u8]) -> usize
         return put_text(out, 0, b"too long\n");
     }
     let mut firsts = [0u32; dayfile::MOST_RECORDS];
-    match dayfile::firsts(file, &mut firsts) {
+    match records::firsts(file, &mut firsts) {
         CountAnswer::Count(n) => put_table(out, file, &firsts[..n]),
         CountAnswer::Refused(refusal) => put_refusal(out, refusal.number),
     }

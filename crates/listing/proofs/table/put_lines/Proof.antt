@@ -3,8 +3,7 @@ use borrow.Author.Needs.{needs}
 use Prim.Native.Nat.{_-_, _≤_}
 use native.Mathlib.Omega.{arith}
 use lib.ListN.{length}
-use Rattle.dayfile.specs.Day.{mostRecords, page}
-use Rattle.dayfile.specs.Read.{bodiesOf}
+use Rattle.dayfile.specs.Day.{mostRecords, page, bodiesOf}
 use Rattle.listing.proofs.Lines.{Cut, listed-few, listed-cut, Lining, lining-start, lining-turn, lining-end}
 use Rattle.listing.proofs.table.put_lines.Statement.{statement}
 use Rattle.listing.proofs.table.put_lines.Tie as tie

@@ -10,15 +10,15 @@ use lib.ListN.{length, getD}
 use Rattle.ground.specs.Tests.{sameList}
 use Rattle.ground.proofs.Bools.{never}
 use Rattle.ground.proofs.Tests.{same-refl, same-true}
-use Rattle.dayfile.specs.declared.answer.ReadAnswer.the-variants.{Record}
 use Rattle.dayfile.specs.Day.{Layout, tableEnd, placeOf, lengthOf, fileOf, Listed}
-use Rattle.dayfile.specs.Read.{firstSame, firstsOf, readAnswer}
-use Rattle.dayfile.specs.Told.{body, Told}
 use Rattle.dayfile.proofs.Layouts.{Lawful}
 use Rattle.dayfile.proofs.Lists.{parted, bodies-file}
-use Rattle.dayfile.proofs.Walks.{row-of}
-use Rattle.dayfile.proofs.Records.{read-so, first-at}
-use Rattle.dayfile.proofs.Theorems.{made-accepted}
+use Rattle.dayfile.proofs.Tables.{row-of}
+use Rattle.records.specs.declared.answer.ReadAnswer.the-variants.{Record}
+use Rattle.records.specs.Read.{firstSame, firstsOf, readAnswer}
+use Rattle.records.specs.Told.{body, Told}
+use Rattle.records.proofs.Records.{read-so, first-at}
+use Rattle.records.proofs.Theorems.{made-accepted}
 
 -- ---- the first equal list
 
