@@ -3,6 +3,7 @@ import functools
 import os
 import pathlib
 import shutil
+import signal
 import struct
 import subprocess
 import sys
@@ -24,6 +25,13 @@ PATIENCE = 120
 def build():
     """Has the programs built once, however long it takes, so that no test waits for it."""
     subprocess.run([FRONT, 'build'], check=True)
+
+
+def heed_signals():
+    """Has whatever a test starts heed an interrupt and a hang-up: what a shell starts in the background, or nohup, ignores them."""
+    for number in (signal.SIGINT, signal.SIGHUP):
+        if signal.getsignal(number) == signal.SIG_IGN:
+            signal.signal(number, signal.SIG_DFL)
 
 
 def front(*words, **how):
@@ -57,6 +65,7 @@ class InFolder(unittest.TestCase):
     """A test with a folder of its own, `room`, which goes when it is done."""
 
     def setUp(self):
+        heed_signals()
         self.room = pathlib.Path(tempfile.mkdtemp(prefix='front-'))
         self.addCleanup(shutil.rmtree, self.room, ignore_errors=True)
 
