@@ -22,12 +22,11 @@ use Rattle.faulting.specs.Kinds.{noFaults, clear}
 use Rattle.faulting.proofs.FaultKinds.{idle-kinds}
 use Rattle.compute.specs.declared.Shape.{Shape}
 use Rattle.compute.specs.Registers.{slotIn, writeLanes}
-use Rattle.compute.specs.Memory.{Memories, memories, memoryOf, changesOf}
+use Rattle.compute.specs.Memory.{Memories, memories, changesOf}
 use Rattle.compute.specs.Operands.{Lent, Operands, operandsOf}
 use Rattle.compute.specs.Values.{resultsOf, targetBy, regsBy, predicateOf, predicateBy, changed, memoriesBy}
 use Rattle.compute.specs.Carrying.{Outcome, outcome, inShape, faultsOf, afterOf, unlessFault, havingRead, carriedOf}
 use Rattle.compute.proofs.Writing.{length-write-lanes, written}
-use Rattle.compute.proofs.Changing.{length-changes}
 use Rattle.compute.proofs.Standing.{stands-rd}
 use Rattle.compute.proofs.Arms.{arm-control}
 
@@ -147,13 +146,6 @@ module _ (shape : Shape) (x : Instr) (t : ℕ) (m : Lent) where
       (λ e. regs-by (λ (l : List ℕ). length l ≡ length (m .regs)) (x .op) shape (x .rd) t results (m .regs)
       (λ u. length-write-lanes shape (m .regs) (x .rd) t results) refl)
       refl
-
-  length-changed : (s q : Space) (at : List ℕ) (f : ℕ → ℕ → ℕ) (y : Memories)
-      → length (memoryOf q (changed s (changesOf (shape .width) at f t) y)) ≡ length (memoryOf q y)
-  length-changed Space.Device Space.Device at f y = length-changes (shape .width) at f t (y .device)
-  length-changed Space.Device Space.Local at f y = refl
-  length-changed Space.Local Space.Device at f y = refl
-  length-changed Space.Local Space.Local at f y = length-changes (shape .width) at f t (y .local)
 
   -- ---- lanes that do not execute
 

@@ -142,9 +142,6 @@ module _ (n : ℕ) (w : Wave) (ps : Preds) where
         yes-within (ps .p3) (first n) (g .1 .in3),
       )
 
-  pub sets-test : (setsTest (first n) w ps ≡ true) ↔ SetsFit n w ps
-  sets-test = (sets-yes, yes-sets)
-
 -- ---- the open blocks
 agree-yes : (p : List Block) (o : List Open) → agree p o ≡ true → Same p o
 agree-yes [] [] t = tt

@@ -5,7 +5,6 @@ use Prim.Native.Nat.{ℕ, zero, suc, _-_, _^_, _≤_, _<_, min, max}
 use native.Mathlib.Omega.{arith}
 use lib.Bits.{bitAnd, bitOr}
 use lib.Dec.{eqb, ltb}
-use borrow.Author.Tests.{lt-ltb, le-ltb}
 use native.Mathlib.Decide.{decLt}
 use mathlib.Core.Logic.{dite}
 use Rattle.ground.proofs.Bools.{never}
@@ -106,12 +105,3 @@ joined-le p q t i h = by (has t i) refl
 
 pub has-ext : (a b : ℕ) → ((i : ℕ) → has a i ≡ has b i) → a ≡ b
 has-ext a b h = set-ext a b (λ i. bit-has a i ∙ ap (λ (t : Bool). cond t 1 0) (h i) ∙ sym (bit-has b i))
-
--- a set is the set of its lanes
-pub set-of-has : (n s : ℕ) → s < 2 ^ n → setOf n (has s) ≡ s
-set-of-has n s b =
-    has-ext (setOf n (has s)) s
-    (λ i. has-set-of n (has s) i
-    ∙ dite (decLt i n)
-    (λ h. rw (lt-ltb i n h) refl)
-    (λ h. rw (le-ltb i n (omega arith)) (sym (has-past n s i b (omega arith)))))

@@ -22,12 +22,10 @@ use Rattle.records.specs.Read.{isFile, refusalOf, ofFile, recordOf, read
 use Rattle.records.specs.Refusals.{FileBreaks, no-count, count-over, not-given}
 use Rattle.records.specs.Refusals.{ReadBreaks, in-file, no-such, FirstsBreak, in-the-file, no-room-for}
 use Rattle.records.proofs.Accepted.{file-given, given-file, accepted-given, given-accepted}
+use Rattle.records.proofs.Theorems.{uncounted}
 
 record-not-refused : {A : Type 0} (a b c : ℕ) (x : Refusal) → Record a b c ≡ NotRead x → A
 record-not-refused a b c x e = absurd (let z : _≡_ {A = ℕ} 0 1 = cc in omega arith)
-
-count-not-refused : {A : Type 0} (k : ℕ) (x : Refusal) → Count k ≡ NotCounted x → A
-count-not-refused k x e = absurd (let z : _≡_ {A = ℕ} 0 1 = cc in omega arith)
 
 module _ {L : Layout} (K : Lawful L) (f : List ℕ) where
   -- a file that is refused
@@ -92,7 +90,7 @@ module _ {L : Layout} (K : Lawful L) (f : List ℕ) where
     firsts-tested : (x : Refusal) (a b : Bool) → eqb (refusalOf L f) 0 ≡ a → leb (countOf f) (length out) ≡ b
         → cond a (cond b (counted (Count (countOf f)) (placed out 0 (firstsOf (bodiesOf L f)))) (counted (NotCounted (broken Rule.short 0)) out))
         (counted (NotCounted (ofFile (refusalOf L f))) out) .answer ≡ NotCounted x → FirstsBreak L f out x
-    firsts-tested x true true ea eb e = count-not-refused _ x e
+    firsts-tested x true true ea eb e = absurd (uncounted _ x e)
     firsts-tested x true false ea eb e =
         firsts-as (broken Rule.short 0) x (no-room-for (accepted-given K f (eqb-true _ _ ea)) (leb-false _ _ eb)) e
     firsts-tested x false b ea eb e = firsts-as (ofFile (refusalOf L f)) x (in-the-file (file-refused (eqb-false _ _ ea))) e

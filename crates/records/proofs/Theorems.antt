@@ -17,7 +17,7 @@ use Rattle.records.proofs.Accepted.{given-accepted}
 pub made-accepted : {L : Layout} (K : Lawful L) (bs : List (List ℕ)) → Listed L bs → refusalOf L (fileOf bs) ≡ 0
 made-accepted K bs h = given-accepted K (fileOf bs) (record { bodies = bs; listed = h; file = refl })
 
-uncounted : (k : ℕ) (x : Refusal) → Count k ≡ Refused x → ⊥
+pub uncounted : (k : ℕ) (x : Refusal) → Count k ≡ Refused x → ⊥
 uncounted k x e = let z : _≡_ {A = ℕ} 0 1 = cc in omega arith
 
 -- THEOREM: firsts that are refused change nothing

@@ -12,12 +12,11 @@ use Rattle.ground.proofs.Bools.{never}
 use Rattle.ground.proofs.Tests.{true-or-false}
 use Rattle.blocks.specs.declared.structure.Checked.{Checked}
 use Rattle.wave.specs.declared.state.State.{State}
-use Rattle.faulting.specs.Kinds.{clear}
 use Rattle.compute.specs.Memory.{Memories, memories}
 use Rattle.stepping.specs.declared.settings.Settings.{Settings}
 use Rattle.stepping.specs.declared.answers.Outcome.{Outcome}
 use Rattle.stepping.specs.Machine.{Machine}
-use Rattle.stepping.specs.Run.{Ran, endedOf, stepAt, runOf}
+use Rattle.stepping.specs.Run.{Ran, runOf}
 use Rattle.stepping.specs.Answer.{Answered, ending, runFrom, stateMachine}
 use Rattle.replay.specs.Replay.{mostSteps, launchTest, resumeTest, byTest, notLaunched, launchMachine, launchOf, resumeOf}
 use Rattle.runs.specs.Calls.{budgeted, resumedWith, added}
@@ -155,7 +154,7 @@ module _ (s : Settings) (code : List ℕ) where
   nothing-left zero x h = refl
   nothing-left (suc b) x h = rw h
 
--- ---- what the code does
+-- ---- slice by slice
 
 -- what was gone on with made no more steps than its budget
 pub resumed-most : (s : Settings) (state : State) (code regs device local : List ℕ) {x : Answered}

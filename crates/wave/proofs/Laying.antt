@@ -2,25 +2,19 @@
 -- into one of its blocks changes that block alone.
 use mathlib.Core.Path.{_≡_, refl, ap, sym, _∙_}
 use mathlib.Core.List.{List, [], _∷_}
-use Prim.Native.Nat.{ℕ, zero, suc, _+_, _-_, _*_, _≤_, _<_}
+use Prim.Native.Nat.{ℕ, zero, suc, _+_, _*_, _≤_, _<_}
 use native.Mathlib.Numerals.{add-one}
 use native.Mathlib.Omega.{arith}
-use lib.ListN.{length, replicate, getD, set, drop, length-replicate, length-drop}
+use lib.ListN.{length, getD, set, drop, length-drop}
 use lib.Seq.{drop-cons}
 use Rattle.lanes.specs.declared.said.Block.{Block}
 use Rattle.lanes.specs.Blocks.{nesting}
-use Rattle.wave.specs.Layout.{blockNumbers, pathNumbers, six, laid, arrayOf, blockAt, opened, over}
+use Rattle.wave.specs.Layout.{blockNumbers, pathNumbers, six, laid, blockAt, opened, over}
 
 -- ---- a path that is laid out
 pub length-laid : (p : List Block) (rest : List ℕ) → length (laid p rest) ≡ blockNumbers * length p + length rest
 length-laid [] rest = omega arith
 length-laid (b ∷ p) rest = omega (arith, length-laid p (six b rest))
-
--- the array of a path has room for as many blocks as there is room for
-pub length-array : (p : List Block) → length p ≤ nesting → length (arrayOf p) ≡ pathNumbers
-length-array p h =
-    let k : ℕ = pathNumbers - blockNumbers * length p in
-    omega (arith, length-laid p (replicate k 0), length-replicate {0} {A = ℕ} k 0)
 
 pub set-laid : (p : List Block) (rest : List ℕ) (n j v : ℕ) → n ≡ blockNumbers * length p + j → set (laid p rest) n v ≡ laid p (set rest j v)
 set-laid [] rest n j v e = ap (λ (k : ℕ). set rest k v) (omega arith)
