@@ -33,7 +33,7 @@ const BEFORE: &str = "
 ";
 
 /// The kernels in the order of the table.
-pub const KERNELS: [Kernel; 8] = [
+pub const KERNELS: [Kernel; 9] = [
     Kernel {
         name: "no-op",
         body: "NOP",
@@ -52,6 +52,16 @@ pub const KERNELS: [Kernel; 8] = [
             SAR r13, r12, r3
         ",
         times: 8,
+    },
+    Kernel {
+        name: "one-register",
+        body: "
+            POPCNT r6, r0
+            NOT r7, r6
+            NEG r8, r7
+            ABS r9, r8
+        ",
+        times: 16,
     },
     Kernel {
         name: "comparison",
