@@ -10,13 +10,5 @@ pub const BITS: u32 = 32;
 pub fn ones(a: u32) -> u32
     ensures { λ r. ⌜ r ≡ oneOf OneOp.Popcnt a ⌝ }
 {
-    let mut count: u32 = 0;
-    let mut rest = a;
-    let mut i: u32 = 0;
-    while i < BITS {
-        count += rest % 2;
-        rest /= 2;
-        i += 1;
-    }
-    count
+    u32::count_ones(a)
 }
