@@ -4,6 +4,7 @@
 pub mod faults;
 pub mod page;
 pub mod refusals;
+pub mod results;
 pub mod shortcuts;
 pub mod stopped;
 
@@ -31,6 +32,7 @@ pub struct Named {
 pub fn all() -> Vec<Named> {
     [
         page::cases(),
+        results::cases(),
         faults::cases(),
         shortcuts::cases(),
         refusals::cases(),
