@@ -1,5 +1,5 @@
 #!/usr/bin/env python3
-"""What crates/arith_cases has to print, worked out from page 01 with Python's integers: every operation on corner values.
+"""What crates/arith_cases has to print, worked out from the pages with Python's integers: every operation on corner values.
 It shares no text with the crates. --write stores the answers; --check fails where the stored ones differ.
 
 A line has the operation, the first operand, and after the colon the result for each second operand. A divisor of zero is
@@ -43,7 +43,7 @@ TWO = [
     ("UREM", lambda a, b: a % b),
     ("MIN", lambda a, b: min(a, b, key=signed)),
     ("MAX", lambda a, b: max(a, b, key=signed)),
-    ("MULHI", lambda a, b: (a * b) >> 32),
+    ("MULHI", lambda a, b: wrap((signed(a) * signed(b)) >> 32)),
     ("AND", lambda a, b: a & b),
     ("OR", lambda a, b: a | b),
     ("XOR", lambda a, b: a ^ b),

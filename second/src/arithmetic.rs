@@ -21,7 +21,7 @@ pub fn two_sources(operation: Operation, a: u32, b: u32) -> u32 {
         Urem => a % b,
         Min => signed(a).min(signed(b)) as u32,
         Max => signed(a).max(signed(b)) as u32,
-        Mulhi => ((u64::from(a) * u64::from(b)) >> 32) as u32,
+        Mulhi => ((i64::from(signed(a)) * i64::from(signed(b))) >> 32) as u32,
         And => a & b,
         Or => a | b,
         Xor => a ^ b,

@@ -1,5 +1,5 @@
-//! Page 01 of the replay desk written a second time, as simply as possible: what the proved programs
-//! are compared with.
+//! Page 01 of the replay desk, with the requests of page 02 that have landed, written a second time, as
+//! simply as possible: what the proved programs are compared with.
 
 pub mod arithmetic;
 pub mod assembly;

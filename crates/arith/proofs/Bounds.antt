@@ -1,10 +1,8 @@
 -- What an operation gives of registers is a register: below 2^32 where its operands are.
 use mathlib.Core.Path.{_≡_, refl, sym, subst⁻¹}
 use mathlib.Core.Bool.{Bool, true, false}
-use mathlib.Core.Logic.{dite}
 use Prim.Native.Nat.{ℕ, _+_, _-_, _*_, _^_, _<_}
 use native.Mathlib.Nat.{mod-lt, mod-le, div-le-self, lt-of-le-of-lt}
-use native.Mathlib.Decide.{decLt}
 use native.Mathlib.Omega.{arith}
 use lib.Bits.{and-le-l, or-lt, xor-lt}
 use lib.Count.{ones-le}
@@ -12,14 +10,15 @@ use lib.Dec.{eqb, ltb, lit<}
 use lib.IntN.{natAbs}
 use lib.Signed.{quotZ}
 use mir.Syntax.{w32}
-use mir.Facts.{fits-of-lt, fits-ofZ, toZ-pos}
+use mir.Facts.{fits-of-lt, fits-ofZ, fits-natAbs, sfits-toZ}
 use Rattle.instructions.specs.declared.instr.TwoOp.{TwoOp}
 use Rattle.instructions.specs.declared.instr.OneOp.{OneOp}
 use Rattle.instructions.specs.declared.instr.AtomicOp.{AtomicOp}
-use Rattle.ground.proofs.Numbers.{product-lt, cond-lt}
+use Rattle.ground.proofs.Numbers.{cond-lt}
 use Rattle.arith.specs.Arith.{signed, register, less, wrapped, places, twoOf, oneOf, atomicOf, swapOf, addressOf}
-use Rattle.arith.proofs.Registers.{upper, shift-fits}
+use Rattle.arith.proofs.Registers.{shift-fits}
 use Rattle.arith.proofs.Quotients.{overflowing, overflow, quotient-fits, remainder-fits}
+use Rattle.arith.proofs.HighHalf.{half-fits}
 
 wrapped-lt : (n : ℕ) → wrapped n < 2 ^ 32
 wrapped-lt n = mod-lt n (lit< tt)
@@ -29,10 +28,7 @@ quotient-lt a b ha hb true e = subst⁻¹ (λ (n : ℕ). n < 2 ^ 32) (sym (overf
 quotient-lt a b ha hb false e = fits-ofZ (quotient-fits a b (fits-of-lt ha) (fits-of-lt hb) e) .fits
 
 abs-lt : (a : ℕ) → a < 2 ^ 32 → natAbs (signed a) < 2 ^ 32
-abs-lt a h =
-    dite (decLt a (2 ^ 31))
-    (λ l. rw (toZ-pos w32 {n = a} l) h)
-    (λ l. rw (upper a (omega arith)) (omega arith))
+abs-lt a h = fits-natAbs {w = w32} {w′ = w32} tt (sfits-toZ (fits-of-lt h)) .fits
 
 pub address-lt : (base offset : ℕ) → addressOf base offset < 2 ^ 32
 address-lt base offset = wrapped-lt (base + offset)
@@ -47,7 +43,7 @@ two-lt TwoOp.Rem a b ha hb = fits-ofZ (remainder-fits a b (fits-of-lt ha)) .fits
 two-lt TwoOp.Urem a b ha hb = lt-of-le-of-lt (mod-le a b) ha
 two-lt TwoOp.Min a b ha hb = cond-lt (less a b) ha hb
 two-lt TwoOp.Max a b ha hb = cond-lt (less a b) hb ha
-two-lt TwoOp.Mulhi a b ha hb = omega (arith, product-lt 32 ha hb)
+two-lt TwoOp.Mulhi a b ha hb = fits-ofZ (half-fits a b (fits-of-lt ha) (fits-of-lt hb)) .fits
 two-lt TwoOp.And a b ha hb = lt-of-le-of-lt (and-le-l a b) ha
 two-lt TwoOp.Or a b ha hb = or-lt 32 a b ha hb
 two-lt TwoOp.Xor a b ha hb = xor-lt 32 a b ha hb

@@ -1,4 +1,6 @@
 pub mod Registers
 pub mod Quotients
+pub mod HighHalf
+pub mod Halves
 pub mod Bounds
 pub mod OneAnswer

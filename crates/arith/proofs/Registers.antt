@@ -1,8 +1,10 @@
 -- Registers read as signed numbers, and signed numbers written to registers. The machine keeps a signed number by its register and
 -- reads it back at each use (`back`): the laws say that what is read back is what was read first.
 use mathlib.Core.Path.{_≡_, refl, ap, _∙_}
-use Prim.Native.Nat.{ℕ, zero, suc, _-_, _^_, _≤_, _<_}
+use mathlib.Core.Logic.{dite}
+use Prim.Native.Nat.{ℕ, zero, suc, _+_, _-_, _^_, _≤_, _<_}
 use native.Mathlib.Nat.{zero-add}
+use native.Mathlib.Decide.{decLt}
 use native.Mathlib.Omega.{arith}
 use mathlib.Core.Bool.{true, false}
 use lib.Dec.{T}
@@ -32,6 +34,13 @@ from-negsuc n = rw (le-ltb (suc n) 1 (omega arith)) (ap pos (omega arith))
 
 pub upper : (x : ℕ) → 2 ^ 31 ≤ x → signed x ≡ negsuc (2 ^ 32 - suc x)
 upper x h = rw (le-ltb x (2 ^ 31) h) refl
+
+-- a register's number is itself, or negative and as far from 0 as the register from 2^32
+pub read-as : (x : ℕ) → x < 2 ^ 32 → (P : ℤ → Type 0) → P (pos x) → ((c : ℕ) → suc c + x ≡ 2 ^ 32 → P (negsuc c)) → P (signed x)
+read-as x h P p n =
+    dite (decLt x (2 ^ 31))
+    (λ l. rw (toZ-pos w32 {n = x} l) p)
+    (λ l. rw (upper x (omega arith)) (n (2 ^ 32 - suc x) (omega arith)))
 
 pub upper-made : (x : ℕ) → 2 ^ 31 ≤ x → x < 2 ^ 32 → negsuc 0 -ℤ signed (4294967295 - x) ≡ signed x
 upper-made x h b =

@@ -1,10 +1,10 @@
--- What each operation gives of one lane's registers. Page 01, "The words" and "One step".
+-- What each operation gives of one lane's registers. Page 01, "The words" and "One step"; MULHI by page 02.
 use Prim.Native.Nat.{ℕ, _+_, _-_, _*_, _/_, _%_, _^_}
 use mathlib.Core.Bool.{Bool, true, false, not, cond}
 use lib.Bits.{bitAnd, bitOr, bitXor}
 use lib.Count.{ones}
 use lib.Dec.{eqb, ltb}
-use lib.IntN.{ℤ, natAbs}
+use lib.IntN.{ℤ, _*ℤ_, natAbs}
 use lib.Signed.{ltZ, quotZ, remZ, shrZ}
 use mir.Syntax.{w32}
 use mir.Val.{toZ, ofZ}
@@ -41,7 +41,8 @@ addressOf base offset = wrapped (base + offset)
 abbrev pub wordOf : ℕ → ℕ
 wordOf address = address / 4
 
--- the operations on RS1 and RS2. DIV cuts toward zero, REM takes the dividend's sign; a divisor of zero, which faults, gives here 0 and the dividend
+-- the operations on RS1 and RS2. DIV cuts toward zero, REM takes the dividend's sign; a divisor of zero, which faults, gives here 0 and the dividend.
+-- MULHI is the high half of the signed product, rounded down
 abbrev pub twoOf : TwoOp → ℕ → ℕ → ℕ
 twoOf TwoOp.Add a b = wrapped (a + b)
 twoOf TwoOp.Sub a b = wrapped (a + (2 ^ 32 - b))
@@ -52,7 +53,7 @@ twoOf TwoOp.Rem a b = register (remZ (signed a) (signed b))
 twoOf TwoOp.Urem a b = a % b
 twoOf TwoOp.Min a b = cond (less a b) a b
 twoOf TwoOp.Max a b = cond (less a b) b a
-twoOf TwoOp.Mulhi a b = a * b / 2 ^ 32
+twoOf TwoOp.Mulhi a b = register (shrZ (signed a *ℤ signed b) (2 ^ 32))
 twoOf TwoOp.And a b = bitAnd a b
 twoOf TwoOp.Or a b = bitOr a b
 twoOf TwoOp.Xor a b = bitXor a b

@@ -132,13 +132,13 @@ table =
     ∷ entry (reading (0x3F000004 ∷ [])) (refusal Rule.field)
     ∷ entry (reading (0x3F000041 ∷ [])) (one (Op.Control ControlOp.Break) 1 false 0 0 0 0 1)
     ∷ entry (reading (0x3F000070 ∷ [])) (refusal Rule.not-carried)
-    -- T7 to T11
+    -- T7 to T11; T10 by page 02, which makes MULHI signed
     ∷ entry (operation TwoOp.Div 0xFFFFFFF9 2) (value 0xFFFFFFFD)
     ∷ entry (operation TwoOp.Rem 0xFFFFFFF9 2) (value 0xFFFFFFFF)
     ∷ entry (operation TwoOp.Div 0x80000000 0xFFFFFFFF) (value 0x80000000)
     ∷ entry (operation TwoOp.Rem 0x80000000 0xFFFFFFFF) (value 0)
     ∷ entry (operation TwoOp.Sar 0x80000000 33) (value 0xC0000000)
-    ∷ entry (operation TwoOp.Mulhi 0xFFFFFFFF 0xFFFFFFFF) (value 0xFFFFFFFE)
+    ∷ entry (operation TwoOp.Mulhi 0xFFFFFFFF 0xFFFFFFFF) (value 0)
     ∷ entry (address 0xFFFFFFFC 8) (value 4)
     -- T12 to T14
     ∷ entry (launching 8 4 2 t12) (ended 9 (7 ∷ 8 ∷ 2 ∷ 2 ∷ []) 12)
