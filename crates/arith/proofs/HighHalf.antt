@@ -11,7 +11,7 @@ use mir.Facts.{toZ-ofZ, sfits-toZ, sfits-widen}
 use Rattle.arith.specs.Arith.{signed, register}
 use Rattle.arith.proofs.Registers.{back, Read, read-back, written}
 
--- ---- sizes
+-- ---- the size of a product, and of a number that is shifted
 
 size-neg : (n : ℕ) → natAbs (negℤ (pos n)) ≡ n
 size-neg zero = refl
