@@ -7,7 +7,7 @@ from desk import blocks, instruction
 from desk.lanes import first, lanes_in, named
 from desk.numerals import numeral
 
-ODD, DEVICE, LOCAL, DIVISOR, BARRIER = 1, 2, 3, 4, 5
+ODD, DEVICE, LOCAL, DIVISOR, BARRIER, TOP = 1, 2, 3, 4, 5, 6
 
 KINDS = {
     ODD: 'the address is not a multiple of 4',
@@ -15,6 +15,7 @@ KINDS = {
     LOCAL: 'the address is past local memory',
     DIVISOR: 'the divisor is 0',
     BARRIER: 'some lanes have not reached the barrier',
+    TOP: 'base + offset reaches 2^32',
 }
 
 
@@ -43,12 +44,11 @@ def address_cause(text, end, lane):
     if value is None:
         return None, None
     base, offset = found
-    address = (value + (offset or 0)) % 2 ** 32
-    if offset is None:
-        where = f'address {numeral(address)} in r{base}'
-    else:
-        wrapped = ', wrapping at 2^32' if address != value + offset else ''
-        where = f'address {numeral(address)} = r{base} {numeral(value)} + {numeral(offset)}{wrapped}'
+    address = value + (offset or 0)
+    if address >= 2 ** 32:
+        return TOP, f'address r{base} {numeral(value)} + {numeral(offset)}: {KINDS[TOP]}'
+    source = f'in r{base}' if offset is None else f'= r{base} {numeral(value)} + {numeral(offset)}'
+    where = f'address {numeral(address)} {source}'
     if address % 4:
         return ODD, f'{where}: not a multiple of 4'
     local = instruction.is_local(text)

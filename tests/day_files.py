@@ -1,8 +1,8 @@
 #!/usr/bin/env python3
 """The stored inputs and answers of the day file's programs.
 
-Written from page 01 alone ("The key", "The day file" and the table of refusals), it shares nothing with the crates. `--write` puts
-each program's files into crates/; `--check` fails where a stored file is not what this script gives.
+Written from page 01 ("The key", "The day file" and the table of refusals) and page 02 (fault kind 6) alone, it shares nothing with the
+crates. `--write` puts each program's files into crates/; `--check` fails where a stored file is not what this script gives.
 
 day_cases reads cases one after another, each three numbers of four bytes, low byte first, and then bytes:
 an operation, its argument, how many bytes (FFFFFFFF: the bytes of the case before). It prints an answer for each.
@@ -11,12 +11,14 @@ an operation, its argument, how many bytes (FFFFFFFF: the bytes of the case befo
   3 I      record I of a day file                               record PLACE LENGTH FIRST   or refused N PLACE
   4 -      the listing of a day file                            its text
 """
+import itertools
 import random
 
 from lib import stored
 
 LAST_PLACE, MOST_DEPTH, MOST_RECORDS, MOST_BYTES = 65535, 32, 1024, 65536
-KINDS = ([1], [2], [3], [4], [5], [1, 2], [1, 3])
+KINDS = ([1], [2], [3], [4], [5], [1, 2], [1, 3], [6], [1, 6], [2, 6], [3, 6], [1, 2, 6], [1, 3, 6])
+MOST_KINDS = 3
 
 
 # ---- the page
@@ -46,12 +48,12 @@ def body_length(data, at):
     try:
         take()
         place, count = take(), take()
-        if place > LAST_PLACE or count > 2:
+        if place > LAST_PLACE or count > MOST_KINDS:
             return None
         faults = [(take(), take()) for _ in range(count)]
         if [k for k, _ in faults] not in KINDS or not all(lanes for _, lanes in faults):
             return None
-        if count == 2 and faults[0][1] & faults[1][1]:
+        if any(one & other for (_, one), (_, other) in itertools.combinations(faults, 2)):
             return None
         take(), take()
         depth = take()
@@ -135,16 +137,27 @@ def listing(data):
 T13 = body(7, 1, [(4, 1)], 3, 0)
 T14 = body(7, 7, [(4, 1)], 5, 0, [(3, 5, 7, 2, 0, 0)])
 BOTH = body(0xFFFFFFFF, 65535, [(1, 5), (2, 10)], 15, 0, [(1, 0, 15, 0, 0, 0), (2, 65535, 15, 0, 0, 0)])
-LONGEST = body(9, 40, [(1, 1), (3, 2)], 3, 0, [(3, k, 3, 0, 0, 0) for k in range(32)])
+THREE = body(7, 0, [(1, 2), (2, 4), (6, 8)], 15, 0)
+LONGEST = body(9, 40, [(1, 1), (3, 2), (6, 4)], 7, 0, [(3, k, 7, 0, 0, 0) for k in range(32)])
 LOOP_AGAIN = body(1, 2, [(5, 1)], 1, 0, [(3, 1, 3, 0, 2, 0)])
+
+
+def apart(kinds, lanes):
+    """Lanes for each kind, out of `lanes` where it can be, so that no lane has two."""
+    every = sum(1 << lane for lane in range(0, 32, len(kinds)))
+    return [(kind, lanes & every << j or 1 << j) for j, kind in enumerate(kinds)]
 
 
 def wrong_bodies():
     yield body(7, 65536, [(4, 1)], 3, 0)
     yield body(7, 1, [], 3, 0)
-    yield body(7, 1, [(1, 1), (2, 2), (3, 4)], 7, 0)
-    for kinds in ([0], [6], [2, 1], [3, 1], [1, 1], [2, 3], [1, 4], [1, 5], [4, 5]):
-        yield body(7, 1, [(k, 1 << j) for j, k in enumerate(kinds)], 3, 0)
+    for kinds in ([0], [7], [2, 1], [3, 1], [1, 1], [2, 3], [1, 4], [1, 5], [4, 5], [6, 1], [4, 6], [5, 6], [6, 6], [1, 7],
+                  [1, 2, 3], [2, 3, 6], [1, 4, 6], [1, 6, 2], [6, 1, 2], [2, 1, 6], [1, 2, 7], [1, 2, 3, 6], [1, 2, 6, 6]):
+        yield body(7, 1, apart(kinds, 15), 15, 0)
+    for sets in ((1, 2, 2), (1, 1, 2), (3, 4, 2), (0, 1, 2), (1, 0, 2), (1, 2, 0)):
+        yield body(7, 1, list(zip((1, 2, 6), sets)), 7, 0)
+        yield body(7, 1, list(zip((1, 3, 6), sets)), 7, 0)
+    yield body(7, 1, [(1, 1), (3, 2), (6, 4)], 7, 0, [(3, 1, 7, 0, 0, 0)] * 33)
     yield body(7, 1, [(4, 0)], 3, 0)
     yield body(7, 1, [(1, 0), (2, 1)], 3, 0)
     yield body(7, 1, [(1, 1), (2, 0)], 3, 0)
@@ -158,9 +171,7 @@ def wrong_bodies():
 
 
 def random_body(rng):
-    lanes = rng.randrange(1, 1 << 32)
-    kinds = rng.choice(KINDS)
-    faults = [(kinds[0], lanes)] if len(kinds) == 1 else [(kinds[0], lanes & 0x55555555 or 1), (kinds[1], lanes & 0xAAAAAAAA or 2)]
+    faults = apart(rng.choice(KINDS), rng.randrange(1, 1 << 32))
     blocks = []
     for _ in range(rng.choice((0, 0, 0, 1, 2, 5))):
         part = rng.randrange(1, 4)
@@ -174,7 +185,7 @@ def flipped(data, at):
 
 
 def body_cases():
-    for b in (T13, T14, BOTH, LONGEST, LOOP_AGAIN):
+    for b in (T13, T14, BOTH, THREE, LONGEST, LOOP_AGAIN):
         yield 1, 0, b
         yield 1, 0, b + b'\xff'
         yield 1, 0, b[:-1]
@@ -187,13 +198,16 @@ def body_cases():
     yield 1, len(T13), T13 + T14
     for b in wrong_bodies():
         yield 1, 0, b
-    for n in range(0, len(T14)):
-        yield 1, 0, T14[:n]
+    for kinds in KINDS:
+        yield 1, 0, body(7, 1, apart(kinds, 15), 15, 0)
+    for b in (T14, THREE):
+        for n in range(0, len(b)):
+            yield 1, 0, b[:n]
 
 
 def make_cases(full):
     two = T13 + T13
-    for data in (b'', T13, two, T14 + BOTH + T13, LONGEST + T14):
+    for data in (b'', T13, two, T14 + BOTH + T13, LONGEST + T14, THREE + T13):
         made = len(make(data, MOST_BYTES))
         for room in (made, made + 3, made - 1, 4, 3, 0):
             yield 2, room, data
@@ -213,11 +227,11 @@ def make_cases(full):
 def read_cases(full):
     page = file_of([T13, T13])
     empty = file_of([])
-    mixed = file_of([T13, T14, BOTH, T13, LONGEST, T14])
+    mixed = file_of([T13, T14, BOTH, T13, LONGEST, T14, THREE])
     for i in (0, 1, 2, 3, 0xFFFFFFFF):
         yield 3, i, page
         yield 3, i, empty
-    for i in range(8):
+    for i in range(9):
         yield 3, i, mixed
     for n in range(len(page)):
         yield 3, 1, page[:n]
@@ -252,7 +266,7 @@ def read_cases(full):
 
 
 def list_cases(full):
-    for bodies in ([T13, T13], [], [T14], [BOTH, T13, BOTH, LONGEST, T13, T14]):
+    for bodies in ([T13, T13], [], [T14], [THREE], [BOTH, T13, BOTH, LONGEST, T13, T14, THREE]):
         yield 4, 0, file_of(bodies)
     yield 4, 0, b''
     yield 4, 0, b'abc'

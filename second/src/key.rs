@@ -8,11 +8,27 @@ use crate::state::State;
 use crate::step::Faults;
 
 /// The most bytes of a body.
-pub const LONGEST_BODY: usize = 808;
+pub const LONGEST_BODY: usize = 816;
 /// The largest place that a body holds.
 const LARGEST_PLACE: u32 = 65_535;
 /// The lists of fault kinds that a body holds.
-const KINDS: [&[u32]; 7] = [&[1], &[2], &[3], &[4], &[5], &[1, 2], &[1, 3]];
+pub const KINDS: [&[u32]; 13] = [
+    &[1],
+    &[2],
+    &[3],
+    &[4],
+    &[5],
+    &[1, 2],
+    &[1, 3],
+    &[6],
+    &[1, 6],
+    &[2, 6],
+    &[3, 6],
+    &[1, 2, 6],
+    &[1, 3, 6],
+];
+/// The most kinds that a body holds.
+const MOST_KINDS: u32 = 3;
 
 /// A body read out of bytes, as far as its listing needs it.
 #[derive(Clone, Debug, PartialEq, Eq)]
@@ -51,9 +67,12 @@ pub fn read(bytes: &[u8]) -> Option<Body> {
     let kernel = next()?;
     let place = next()?;
     let count = next()?;
+    if count > MOST_KINDS {
+        return None;
+    }
     let mut kinds = Vec::new();
     let mut lanes = Vec::new();
-    for _ in 0..count.min(3) {
+    for _ in 0..count {
         kinds.push(next()?);
         lanes.push(next()?);
     }
@@ -79,8 +98,13 @@ pub fn read(bytes: &[u8]) -> Option<Body> {
 
 /// Whether the kinds are a listed list, and their lane sets are not empty and don't overlap.
 fn kinds_allowed(kinds: &[u32], lanes: &[u32]) -> bool {
-    let overlap = lanes.len() == 2 && lanes[0] & lanes[1] != 0;
-    KINDS.contains(&kinds) && !lanes.contains(&0) && !overlap
+    KINDS.contains(&kinds) && !lanes.contains(&0) && !overlap(lanes)
+}
+
+/// Whether two of the sets have a lane in common.
+fn overlap(sets: &[u32]) -> bool {
+    let common = |(index, set): (usize, &u32)| sets[..index].iter().any(|other| set & other != 0);
+    sets.iter().enumerate().any(common)
 }
 
 /// Whether a block's numbers are of the layout.

@@ -14,8 +14,8 @@ pub struct Lent<'a> {
     pub local: &'a mut [u32],
 }
 
-/// The lanes of each fault kind, kinds 1 to 5 in order.
-pub type Faults = [Lanes; 5];
+/// The lanes of each fault kind, kinds 1 to 6 in order.
+pub type Faults = [Lanes; 6];
 
 /// The code and the settings that a step needs.
 #[derive(Clone, Copy)]
@@ -32,7 +32,7 @@ pub fn step(kernel: &Kernel, state: &mut State, lent: &mut Lent) -> Result<(), F
     let instruction = words::instruction_at(kernel.code, state.place as usize);
     let executing = executing_lanes(&instruction, state);
     let faults = faults(&instruction, executing, kernel, state, lent);
-    if faults != [0; 5] {
+    if faults != Faults::default() {
         return Err(faults);
     }
     if instruction.operation.form() == Form::Control {
@@ -59,11 +59,11 @@ fn place_of(kernel: &Kernel, lane: usize, register: u32) -> usize {
     lane * kernel.registers as usize + register as usize
 }
 
-/// The address that a lane uses: the base plus the offset, wrapping at 2^32.
-fn address(instruction: &Instruction, base: u32) -> u32 {
+/// The address that a lane uses: the base plus the offset, which atomics don't have. It may reach 2^32.
+fn address(instruction: &Instruction, base: u32) -> u64 {
     match instruction.operation.form() {
-        Form::Memory => base.wrapping_add(instruction.number),
-        _ => base,
+        Form::Memory => u64::from(base) + u64::from(instruction.number),
+        _ => u64::from(base),
     }
 }
 
@@ -77,7 +77,7 @@ fn faults(
 ) -> Faults {
     let operation = instruction.operation;
     let apart = kernel.launched & !state.halted & !state.active != 0;
-    let mut faults = [0; 5];
+    let mut faults = Faults::default();
     match operation.form() {
         Form::Memory | Form::Atomic | Form::CompareAndSwap => {
             for lane in each_lane(executing) {
@@ -99,15 +99,18 @@ fn faults(
     faults
 }
 
-/// The fault kind of an address: 1 not a multiple of 4, 2 past device memory, 3 past local memory.
-fn address_fault(address: u32, operation: Operation, lent: &Lent) -> Option<usize> {
+/// The fault kind of an address: 6 it reaches 2^32, or else 1 not a multiple of 4, 2 past device memory,
+/// 3 past local memory.
+fn address_fault(address: u64, operation: Operation, lent: &Lent) -> Option<usize> {
     let (words, kind) = match operation {
         Operation::LocalLoad | Operation::LocalStore => (lent.local.len(), 3),
         _ => (lent.device.len(), 2),
     };
-    if address % 4 != 0 {
+    if address >= 1 << 32 {
+        Some(6)
+    } else if address % 4 != 0 {
         Some(1)
-    } else if address as usize / 4 >= words {
+    } else if address / 4 >= words as u64 {
         Some(kind)
     } else {
         None

@@ -28,7 +28,7 @@ fn sample(name: &str) -> Capture {
 
 #[test]
 fn each_packed_sample_is_what_its_text_packs_to() {
-    assert!(samples().len() >= 8);
+    assert!(samples().len() >= 9);
     for path in samples() {
         let read = text::read(&fs::read_to_string(&path).expect("text")).expect("a capture");
         let capture = read.capture;

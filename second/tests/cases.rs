@@ -69,6 +69,35 @@ fn everything_is_reached() {
 }
 
 #[test]
+fn each_list_of_an_address_s_kinds_is_made() {
+    let lists: [&[usize]; 11] = [
+        &[1],
+        &[2],
+        &[3],
+        &[1, 2],
+        &[1, 3],
+        &[6],
+        &[1, 6],
+        &[2, 6],
+        &[3, 6],
+        &[1, 2, 6],
+        &[1, 3, 6],
+    ];
+    for seed in 0..100 {
+        for (number, kinds) in (13..).zip(lists) {
+            let Case::Run { mut capture, .. } = make::case(seed, number) else {
+                panic!("a run, as case {number} of each seed")
+            };
+            let Outcome::Fault(lanes) = capture.run().outcome else {
+                panic!("a fault, as case {number} of each seed")
+            };
+            let found: Vec<usize> = (1..=6).filter(|kind| lanes[kind - 1] != 0).collect();
+            assert_eq!(found, kinds, "case {number} of seed {seed}");
+        }
+    }
+}
+
+#[test]
 fn the_first_difference_is_named() {
     let made = cases(14, 60);
     let reached = &mut Reached::default();

@@ -74,8 +74,10 @@ fn every_refusal_and_fault_kind_has_one() {
         };
     }
     let mut expected: BTreeSet<String> = (1..=11).map(|n| format!("refusal {n}")).collect();
-    let kinds = ["[1]", "[2]", "[3]", "[4]", "[5]", "[1, 2]", "[1, 3]"];
-    expected.extend(kinds.map(|kinds| format!("kinds {kinds}")));
+    let kinds = [
+        "1", "2", "3", "4", "5", "1, 2", "1, 3", "6", "1, 6", "2, 6", "3, 6", "1, 2, 6", "1, 3, 6",
+    ];
+    expected.extend(kinds.map(|kinds| format!("kinds [{kinds}]")));
     expected.extend(["ended", "out of budget"].map(String::from));
     assert_eq!(found, expected);
 }

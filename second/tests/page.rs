@@ -1,4 +1,5 @@
-//! The page's marked table, T1 to T14, and its listing; T10 by page 02, which makes MULHI signed.
+//! The page's marked table, T1 to T14, and its listing; T10 and T11 by page 02, which makes MULHI signed, and a
+//! sum of base and offset that reaches 2^32 a fault.
 
 mod common;
 
@@ -79,12 +80,12 @@ fn t7_to_t10() {
 }
 
 #[test]
-fn t11_an_address_wraps() {
+fn t11_a_sum_past_the_top() {
     let mut desk = desk(8, 1, 2, "30010000 00000008");
     desk.registers[0] = 0xFFFFFFFC;
     desk.device = vec![11, 22, 33];
-    assert_eq!(desk.launch().outcome, Outcome::Ended);
-    assert_eq!(desk.register(0, 1), 22);
+    assert_eq!(desk.launch().outcome, Outcome::Fault([0, 0, 0, 0, 0, 1]));
+    assert_eq!(desk.register(0, 1), 0);
 }
 
 #[test]
@@ -109,7 +110,7 @@ fn body_after(steps: u32, lanes: u32, code: &str) -> Vec<u8> {
     let answer = desk(8, lanes, 2, code).launch();
     assert!(matches!(answer.outcome, Outcome::Fault(_)));
     assert_eq!(answer.steps, steps);
-    let mut output = vec![0; 808];
+    let mut output = vec![0; key::LONGEST_BODY];
     let length = key::write(7, &answer.outcome, &answer.state, &mut output).expect("a key");
     output.truncate(length);
     output

@@ -253,6 +253,66 @@ fn bodies_of_the_layout() {
     }
 }
 
+/// A body of kernel 7 with these kinds, each with its lanes, in so many loops.
+fn body_by(kinds: &[[u32; 2]], depth: usize) -> Vec<u8> {
+    let mut numbers = vec![7, 0, kinds.len() as u32];
+    numbers.extend(kinds.as_flattened());
+    numbers.extend([0xF, 0, depth as u32]);
+    numbers.extend([3, 1, 0xF, 0, 0, 0].repeat(depth));
+    bytes::from_numbers(&numbers)
+}
+
+#[test]
+fn kinds_of_the_layout() {
+    let length = |kinds: &[[u32; 2]], depth| key::read(&body_by(kinds, depth)).map(|b| b.length);
+    assert_eq!(length(&[[6, 1]], 0), Some(32));
+    for kind in [1, 2, 3] {
+        assert_eq!(length(&[[kind, 1], [6, 2]], 0), Some(40), "{kind} 6");
+    }
+    for past in [2, 3] {
+        let three = [[1, 2], [past, 4], [6, 8]];
+        assert_eq!(length(&three, 0), Some(48), "1 {past} 6");
+        assert_eq!(length(&three, 32), Some(816), "1 {past} 6");
+        assert_eq!(length(&three, 33), None, "1 {past} 6");
+        for sets in [
+            [1, 2, 2],
+            [1, 1, 2],
+            [1, 2, 1],
+            [0, 1, 2],
+            [1, 0, 2],
+            [1, 2, 0],
+        ] {
+            let wrong = [[1, sets[0]], [past, sets[1]], [6, sets[2]]];
+            assert_eq!(length(&wrong, 0), None, "1 {past} 6, {sets:?}");
+        }
+    }
+}
+
+#[test]
+fn kinds_of_no_layout() {
+    let lists: [&[u32]; 15] = [
+        &[0],
+        &[7],
+        &[6, 1],
+        &[6, 2],
+        &[6, 6],
+        &[4, 6],
+        &[5, 6],
+        &[1, 7],
+        &[2, 3, 6],
+        &[1, 2, 3],
+        &[1, 6, 2],
+        &[6, 1, 2],
+        &[1, 4, 6],
+        &[1, 2, 3, 6],
+        &[1, 2, 6, 6],
+    ];
+    for kinds in lists {
+        let apart: Vec<[u32; 2]> = (0..).zip(kinds).map(|(k, kind)| [*kind, 1 << k]).collect();
+        assert_eq!(key::read(&body_by(&apart, 0)), None, "{kinds:?}");
+    }
+}
+
 #[test]
 fn writing_a_key() {
     let state = State::launched(3);
@@ -263,11 +323,22 @@ fn writing_a_key() {
         assert!(output[length..].iter().all(|byte| *byte == 7));
         result
     };
-    let fault = Outcome::Fault([0, 0, 0, 1, 0]);
+    let fault = Outcome::Fault([0, 0, 0, 1, 0, 0]);
     assert_eq!(write(&fault, &state, 40), Ok(32));
     assert_eq!(write(&fault, &state, 31), Err(at(13, 0)));
     assert_eq!(write(&Outcome::Ended, &state, 0), Err(at(14, 0)));
-    for faults in [[0; 5], [1, 1, 0, 0, 0], [0, 1, 2, 0, 0], [1, 2, 4, 0, 0]] {
+    for faults in [
+        [0; 6],
+        [1, 1, 0, 0, 0, 0],
+        [0, 1, 2, 0, 0, 0],
+        [1, 2, 4, 0, 0, 0],
+        [0, 0, 0, 1, 0, 2],
+        [0, 0, 0, 0, 1, 2],
+        [0, 1, 2, 0, 0, 4],
+        [1, 2, 4, 0, 0, 8],
+        [1, 2, 0, 0, 0, 2],
+        [1, 0, 2, 0, 0, 1],
+    ] {
         assert_eq!(write(&Outcome::Fault(faults), &state, 99), Err(at(14, 0)));
     }
     let mut deep = state.clone();
@@ -278,7 +349,10 @@ fn writing_a_key() {
         };
         32
     ];
-    assert_eq!(write(&Outcome::Fault([1, 2, 0, 0, 0]), &deep, 808), Ok(808));
+    let three = Outcome::Fault([1, 2, 0, 0, 0, 4]);
+    assert_eq!(write(&three, &state, 48), Ok(48));
+    assert_eq!(write(&three, &deep, 815), Err(at(13, 0)));
+    assert_eq!(write(&three, &deep, 816), Ok(816));
     deep.blocks.push(deep.blocks[0]);
     assert_eq!(write(&fault, &deep, 2000), Err(at(14, 0)));
 }
@@ -331,4 +405,7 @@ fn listings() {
     let mut file = vec![0; 76];
     dayfile::make(&bytes::from_numbers(&body()), &mut file).expect("a file");
     assert!(listing(&file).contains("\n1 1 1 65535 1,3 1\n"));
+    let mut file = vec![0; 60];
+    dayfile::make(&body_by(&[[1, 2], [2, 4], [6, 8]], 0), &mut file).expect("a file");
+    assert!(listing(&file).contains("\n1 1 7 0 1,2,6 0\n"));
 }

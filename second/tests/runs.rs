@@ -68,9 +68,9 @@ fn budget_0_on_code_that_has_ended() {
 #[test]
 fn no_memory_faults_every_address() {
     let mut load = desk(8, 2, 1, "30000000 00000000");
-    assert_eq!(load.launch().outcome, Outcome::Fault([0, 3, 0, 0, 0]));
+    assert_eq!(load.launch().outcome, Outcome::Fault([0, 3, 0, 0, 0, 0]));
     let mut local = desk(8, 2, 1, "39000000 00000000");
-    assert_eq!(local.launch().outcome, Outcome::Fault([0, 0, 3, 0, 0]));
+    assert_eq!(local.launch().outcome, Outcome::Fault([0, 0, 3, 0, 0, 0]));
 }
 
 #[test]
@@ -102,10 +102,10 @@ fn with_r0(code: &str, r0: [u32; 4]) -> Desk {
 fn fault_kinds_lane_by_lane() {
     let device = "30000000 00000000";
     let outcome = with_r0(device, [0, 1, 4, 6]).launch().outcome;
-    assert_eq!(outcome, Outcome::Fault([0b1010, 0b100, 0, 0, 0]));
+    assert_eq!(outcome, Outcome::Fault([0b1010, 0b100, 0, 0, 0, 0]));
     let local = "38000000 00000000";
     let outcome = with_r0(local, [0, 1, 4, 6]).launch().outcome;
-    assert_eq!(outcome, Outcome::Fault([0b1010, 0, 0b100, 0, 0]));
+    assert_eq!(outcome, Outcome::Fault([0b1010, 0, 0b100, 0, 0, 0]));
     for divide in [
         "03000000 00000000",
         "04000000 00000000",
@@ -113,7 +113,35 @@ fn fault_kinds_lane_by_lane() {
         "06000000 00000000",
     ] {
         let outcome = with_r0(divide, [0, 1, 0, 6]).launch().outcome;
-        assert_eq!(outcome, Outcome::Fault([0, 0, 0, 0b101, 0]));
+        assert_eq!(outcome, Outcome::Fault([0, 0, 0, 0b101, 0, 0]));
+    }
+}
+
+#[test]
+fn a_sum_that_reaches_the_top_has_kind_6_alone() {
+    let bases = [0xFFFFFFF8, 0xFFFFFFF9, 0xFFFFFFFC, 0xFFFFFFFF];
+    for (code, past) in [
+        ("30000000 00000004", 2),
+        ("31000000 00000004", 2),
+        ("38000000 00000004", 3),
+        ("39000000 00000004", 3),
+    ] {
+        let mut expected = [0b0010, 0, 0, 0, 0, 0b1100];
+        expected[past - 1] = 0b0001;
+        let mut desk = with_r0(code, bases);
+        assert_eq!(desk.launch().outcome, Outcome::Fault(expected));
+        assert_eq!(desk.registers[..4], bases);
+        assert_eq!((desk.device, desk.local), (vec![5], vec![0]));
+    }
+}
+
+#[test]
+fn an_atomic_has_no_offset_and_no_kind_6() {
+    for code in ["3C000000 00000000", "3D000000 00000000"] {
+        let outcome = with_r0(code, [0xFFFFFFFC, 0xFFFFFFFF, 0, 4])
+            .launch()
+            .outcome;
+        assert_eq!(outcome, Outcome::Fault([0b0010, 0b1001, 0, 0, 0, 0]));
     }
 }
 
@@ -121,7 +149,7 @@ fn fault_kinds_lane_by_lane() {
 fn a_faulting_store_writes_no_lane() {
     let mut desk = with_r0("31000000 00000000", [0, 4, 0, 0]);
     let answer = desk.launch();
-    assert_eq!(answer.outcome, Outcome::Fault([0, 0b10, 0, 0, 0]));
+    assert_eq!(answer.outcome, Outcome::Fault([0, 0b10, 0, 0, 0, 0]));
     assert_eq!(answer.steps, 0);
     assert_eq!(desk.device, [5]);
 }
@@ -133,7 +161,7 @@ fn a_barrier_faults_where_some_launched_lane_is_inactive() {
     assert_eq!(waiting.outcome, Outcome::Ended, "every lane is equal");
     let split = "F2000000 F1010000 00000002 2A010000 01000000";
     let half = desk(8, 4, 2, &format!("{split} 3F000001 3F0000A0 3F000020")).launch();
-    assert_eq!(half.outcome, Outcome::Fault([0, 0, 0, 0, 0b11]));
+    assert_eq!(half.outcome, Outcome::Fault([0, 0, 0, 0, 0b11, 0]));
     let halted = desk(8, 4, 2, &format!("{split} 3F000091 3F0000A0")).launch();
     assert_eq!(halted.outcome, Outcome::Ended, "the others have halted");
     assert_eq!(halted.state.halted, 0b11);

@@ -40,6 +40,14 @@ class Causes(unittest.TestCase):
         found = report('LOAD r1, [r0 + 0]', [(1, '00000002'), (2, '00000005')])
         self.assertEqual(['lane 0', 'lane 1', 'lane 2'], [line[:6] for line in told(found, state)])
 
+    def test_lanes_rise_over_three_kinds(self):
+        state = end([[0xFFFFFFFC, 0, 0, 0], [8, 0, 0, 0], [0, 0, 0, 0], [1, 0, 0, 0], [0xFFFFFFFF, 0, 0, 0]], device=2)
+        found = report('STORE [r0 + 4], r1', [(1, '00000008'), (2, '00000002'), (6, '00000011')])
+        self.assertEqual(['lane 0: address r0 0xFFFFFFFC + 4: base + offset reaches 2^32',
+                          'lane 1: address 12 = r0 8 + 4: past device memory of 8 bytes',
+                          'lane 3: address 5 = r0 1 + 4: not a multiple of 4',
+                          'lane 4: address r0 0xFFFFFFFF + 4: base + offset reaches 2^32'], told(found, state))
+
     def test_first_and_last_word(self):
         state = end([[60, 0, 0, 0], [64, 0, 0, 0]], device=16)
         found = report('LOAD r1, [r0 + 0]', [(2, '00000003')])
@@ -57,11 +65,21 @@ class Causes(unittest.TestCase):
         self.assertEqual(['lane 0: address 0 = r0 0 + 0: past device memory of 0 bytes'],
                          told(report('LOAD r0, [r0 + 0]', [(2, '00000001')]), end([])))
 
-    def test_wrapping_and_large(self):
-        state = end([[0xFFFFFFFC, 0, 0, 0], [0xFFFFFFFF, 0, 0, 0]], device=1)
-        found = report('LOAD r1, [r0 + 8] on not p1', [(1, '00000002'), (2, '00000001')])
-        self.assertEqual(['lane 0: address 4 = r0 0xFFFFFFFC + 8, wrapping at 2^32: past device memory of 4 bytes',
-                          'lane 1: address 7 = r0 0xFFFFFFFF + 8, wrapping at 2^32: not a multiple of 4'], told(found, state))
+    def test_either_side_of_the_top(self):
+        state = end([[0xFFFFFFF4, 0, 0, 0], [0xFFFFFFF7, 0, 0, 0], [0xFFFFFFF8, 0, 0, 0], [0xFFFFFFF9, 0, 0, 0]], device=1, local=1)
+        memories = {'LOAD r1, [r0 + 8] on not p1': (2, 'device'), 'LOCAL_STORE [r0 + 8], r1': (3, 'local')}
+        for text, (past, memory) in memories.items():
+            found = report(text, [(1, '00000002'), (past, '00000001'), (6, '0000000C')])
+            self.assertEqual([f'lane 0: address 0xFFFFFFFC = r0 0xFFFFFFF4 + 8: past {memory} memory of 4 bytes',
+                              'lane 1: address 0xFFFFFFFF = r0 0xFFFFFFF7 + 8: not a multiple of 4',
+                              'lane 2: address r0 0xFFFFFFF8 + 8: base + offset reaches 2^32',
+                              'lane 3: address r0 0xFFFFFFF9 + 8: base + offset reaches 2^32'], told(found, state))
+
+    def test_a_large_offset(self):
+        state = end([[0, 0, 0, 0], [4, 0, 0, 0]], device=1)
+        self.assertEqual(['lane 0: address 0xFFFFFFFC = r0 0 + 0xFFFFFFFC: past device memory of 4 bytes',
+                          'lane 1: address r0 4 + 0xFFFFFFFC: base + offset reaches 2^32'],
+                         told(report('LOAD r1, [r0 + 0xFFFFFFFC]', [(2, '00000001'), (6, '00000002')]), state))
 
     def test_offset_in_hexadecimal(self):
         self.assertEqual(['lane 0: address 0x00989684 = r3 4 + 0x00989680: past device memory of 4 bytes'],
@@ -73,6 +91,8 @@ class Causes(unittest.TestCase):
                          told(report('ATOMIC_UMAX r0, [r1], r2 scope 3 on p1', [(1, '00000001')]), state))
         self.assertEqual(['lane 0: address 6 in r1: not a multiple of 4'],
                          told(report('CAS r0, [r1], r2, r3', [(1, '00000001')]), state))
+        self.assertEqual(['lane 0: address 0xFFFFFFFC in r1: past device memory of 8 bytes'],
+                         told(report('ATOMIC_ADD r0, [r1], r2', [(2, '00000001')]), end([[0, 0xFFFFFFFC, 0, 0]], device=2)))
 
     def test_divisor(self):
         state = end([[7, 0, 1, 0], [7, 3, 1, 0]])
@@ -90,11 +110,14 @@ class Causes(unittest.TestCase):
         self.assertEqual(['lane 0: the address is past device memory', 'lane 1: the address is not a multiple of 4'],
                          told(report('LOAD r1, [r0 + 0]', [(1, '00000002'), (2, '00000001')]), state))
         self.assertEqual(['lane 0: the address is past device memory'], told(report('DIV r0, r0, r1', [(2, '00000001')]), state))
+        self.assertEqual(['lane 0: base + offset reaches 2^32'], told(report('LOAD r1, [r0 + 0]', [(6, '00000001')]), state))
+        top = end([[0xFFFFFFFF, 0, 0, 0]], device=4)
+        self.assertEqual(['lane 0: the address is not a multiple of 4'], told(report('LOAD r1, [r0 + 2]', [(1, '00000001')]), top))
 
     def test_without_the_instruction(self):
-        found = report(None, [(1, '000000A8'), (2, '00000040')])
-        self.assertEqual(['lanes 3,5,7: the address is not a multiple of 4', 'lane 6: the address is past device memory'],
-                         told(found, end([])))
+        found = report(None, [(1, '000000A8'), (2, '00000040'), (6, '00000003')])
+        self.assertEqual(['lanes 3,5,7: the address is not a multiple of 4', 'lane 6: the address is past device memory',
+                          'lanes 0-1: base + offset reaches 2^32'], told(found, end([])))
 
 
 class Barriers(unittest.TestCase):

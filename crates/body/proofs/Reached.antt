@@ -1,4 +1,4 @@
--- A body has 32 to 808 bytes, and both lengths are reached: by one kind with no open block, and by two kinds in 32 open loops.
+-- A body has 32 to 816 bytes, and both lengths are reached: by one kind with no open block, and by three kinds in 32 open loops.
 use mathlib.Core.Path.{_≡_, refl}
 use Prim.Native.Nat.{ℕ, _≤_}
 use mathlib.Core.List.{List, [], _∷_, flatMap}
@@ -18,16 +18,16 @@ body-long b e = let s = body-starts kindLists setBytes b e in let l = starts-lon
 abbrev unblocked : Parts
 unblocked = record { kernel = 7; place = 1; faults = record { kind = 4; lanes = 1 } ∷ []; active = 3; halted = 0; blocks = [] }
 
--- two kinds, 32 loops in each other
+-- three kinds, 32 loops in each other
 abbrev loops : Parts
 loops =
     record {
       kernel = 7;
       place = 65535;
-      faults = record { kind = 1; lanes = 1 } ∷ record { kind = 3; lanes = 2 } ∷ [];
-      active = 3;
+      faults = record { kind = 1; lanes = 1 } ∷ record { kind = 3; lanes = 2 } ∷ record { kind = 6; lanes = 4 } ∷ [];
+      active = 7;
       halted = 0;
-      blocks = replicate 32 (record { part = 3; opener = 1; entered = 3; aside = 0; again = 0; left = 0 });
+      blocks = replicate 32 (record { part = 3; opener = 1; entered = 7; aside = 0; again = 0; left = 0 });
     }
 
 pub shortest-reached : (isBody (bytesOfBody unblocked) ≡ true) × (length (bytesOfBody unblocked) ≡ shortest)

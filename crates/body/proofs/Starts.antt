@@ -139,7 +139,7 @@ starts-long k w n f s h =
     let d = mul-le-mul-left (blockBytes w) blocks in
     (omega arith, omega arith)
 
--- with the page's table one or two
+-- with the page's table one to three
 pub page-few : allOf (few mostKinds) kindLists ≡ true
 unfolding allOf kindLists
 page-few = refl

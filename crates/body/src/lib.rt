@@ -28,7 +28,7 @@ ghost use Rattle.body.specs.Spelling.{spells, mayPrecede};
 
 const LAST_PLACE: u32 = 65535;
 
-const MOST_KINDS: usize = 2;
+const MOST_KINDS: usize = 3;
 
 // The length of the longest body.
 pub const LONGEST: usize = HEAD_BYTES + FAULT_BYTES * MOST_KINDS + BLOCK_BYTES * DEEPEST;
@@ -50,6 +50,12 @@ fn in_table(kinds: u32) -> bool
         | (kinds == 0x5)
         | (kinds == 0x21)
         | (kinds == 0x31)
+        | (kinds == 0x6)
+        | (kinds == 0x61)
+        | (kinds == 0x62)
+        | (kinds == 0x63)
+        | (kinds == 0x621)
+        | (kinds == 0x631)
 }
 
 // Whether a fault kind has lanes, none of them among those `seen`, and is a digit.
@@ -113,7 +119,7 @@ fn blocks_fit(bytes: &[u8], p: usize, depth: usize) -> bool
     true
 }
 
-// The length of the body that starts at `at`, 32 to 808; or refusal 14, at `at`, where none of the layout starts there.
+// The length of the body that starts at `at`, 32 to 816; or refusal 14, at `at`, where none of the layout starts there.
 pub fn body_length(bytes: &[u8], at: usize) -> BodyAnswer
     ensures { λ r. ⌜ r ≡ bodyAnswer (now (bytes .entry)) at ⌝ }
 {

@@ -15,8 +15,9 @@ use Rattle.instructions.specs.declared.instr.Instr.{Instr}
 use Rattle.arith.specs.Arith.{addressOf, wordOf}
 use Rattle.faulting.specs.declared.faults.Faults.{Faults}
 use Rattle.faulting.specs.Kinds.{noFaults, clear}
-use Rattle.faulting.specs.Causes.{addressFault, kindsOf, addressFaults}
-use Rattle.faulting.proofs.FaultKinds.{kinds-same, no-kinds}
+use Rattle.faulting.specs.Causes.{addressFault, kindsOf}
+use Rattle.faulting.specs.Told.{addressFaults}
+use Rattle.faulting.proofs.FaultKinds.{no-kinds}
 use Rattle.compute.specs.declared.Shape.{Shape}
 use Rattle.compute.specs.declared.memory.Change.{Change}
 use Rattle.compute.specs.Registers.{byLane, gatherOf, writeLanes}
@@ -29,6 +30,7 @@ use Rattle.compute.specs.Classes.{Ready, Settled, dividingFaults, reache
 use Rattle.compute.proofs.Lanewise.{getD-by-lane, by-lane-same}
 use Rattle.compute.proofs.Settling.{settled-as, settled-within, settled-changed, settled-same}
 use Rattle.compute.proofs.Standing.{narrow}
+use Rattle.compute.proofs.Addressing.{told-alone}
 
 settled-outcome : {faults answer : Faults} {changed before after : Lent} → Settled faults changed answer before after
     → outcome answer after ≡ unlessFault faults before changed
@@ -98,17 +100,13 @@ module _ (shape : Shape) (x : Instr) (t p : ℕ) (regs device local : List ℕ) 
   unfolding faultsOf afterOf resultsOf loadLanes
   as-load s e n =
       rw e
-      (ap₂ (λ (f : Faults) (results : List ℕ). unlessFault f before (left (write results) both))
-      (kinds-same W t _ _ (λ i b. ap (addressFault s (length (memoryOf s both))) (address-is n i b)))
+      (ap (λ (results : List ℕ). unlessFault (reachFaults s shape x t regs (memoryOf s both)) before (left (write results) both))
       (by-lane-same W _ _ (λ i b. ap (λ (a : ℕ). getD (memoryOf s both) (wordOf a) 0) (address-is n i b))))
 
-  as-store : (s : Space) → x .op ≡ Op.Store s → W ≤ widest
+  as-store : (s : Space) → x .op ≡ Op.Store s
       → unlessFault (reachFaults s shape x t regs (memoryOf s both)) before (left regs (changed s (storesOf shape x t regs) both)) ≡ done
   unfolding faultsOf afterOf resultsOf
-  as-store s e n =
-      rw e
-      (ap (λ (f : Faults). unlessFault f before (left regs (changed s (storesOf shape x t regs) both)))
-      (kinds-same W t _ _ (λ i b. ap (addressFault s (length (memoryOf s both))) (address-is n i b))))
+  as-store s e = rw e refl
 
   -- an atomic: its addresses, and what it leaves
   abbrev bases : List ℕ
@@ -117,8 +115,11 @@ module _ (shape : Shape) (x : Instr) (t p : ℕ) (regs device local : List ℕ) 
   abbrev changes : (ℕ → ℕ → ℕ) → Lent
   changes f = left (write (byLane W (oldOf bases f t device))) (memories (changesOf W bases f t device) local)
 
+  abbrev atBases : Faults
+  atBases = kindsOf W t (λ i. addressFault Space.Device (length device) (getD bases i 0))
+
   as-change : (change : Change) → x .op ≡ opBy change
-      → unlessFault (addressFaults Space.Device W bases (length device) t) before
+      → unlessFault atBases before
       (changes (changeTo change shape regs (x .rs2) (desiredBy change x))) ≡ done
   unfolding faultsOf afterOf resultsOf
   as-change (Change.Atomic o) e = rw e refl
@@ -162,20 +163,18 @@ module _ (shape : Shape) (x : Instr) (t p : ℕ) (regs device local : List ℕ) 
   pub arm-store-device : Ready (Op.Store Space.Device) shape x regs → (r : Faults) (device′ : List ℕ)
       → Stores Space.Device shape x t regs r device device′ → outcome r (lent p regs device′ local) ≡ done
   arm-store-device y r device′ h =
-      settled-outcome (settled-within (λ (l : List ℕ). left regs (memories l local)) h)
-      ∙ as-store Space.Device (y .is) (narrow shape x regs (y .shaped))
+      settled-outcome (settled-within (λ (l : List ℕ). left regs (memories l local)) h) ∙ as-store Space.Device (y .is)
 
   pub arm-store-local : Ready (Op.Store Space.Local) shape x regs → (r : Faults) (local′ : List ℕ)
       → Stores Space.Local shape x t regs r local local′ → outcome r (lent p regs device local′) ≡ done
   arm-store-local y r local′ h =
-      settled-outcome (settled-within (λ (l : List ℕ). left regs (memories device l)) h)
-      ∙ as-store Space.Local (y .is) (narrow shape x regs (y .shaped))
+      settled-outcome (settled-within (λ (l : List ℕ). left regs (memories device l)) h) ∙ as-store Space.Local (y .is)
 
   -- an atomic, by what `is_clear` told of its faults
   module _ (change : Change) (y : Ready (opBy change) shape x regs) (c : ℕ) (named : c ≡ desiredBy change x) (l : List ℕ) (read : l ≡ bases)
-      (f : Faults) (told : f ≡ addressFaults Space.Device W l (length device) t) (test : Bool) (tested : test ≡ clear f) where
-    faults-are : f ≡ addressFaults Space.Device W bases (length device) t
-    faults-are = told ∙ ap (λ (k : List ℕ). addressFaults Space.Device W k (length device) t) read
+      (f : Faults) (told : f ≡ addressFaults Space.Device W l 0 (length device) t) (test : Bool) (tested : test ≡ clear f) where
+    faults-are : f ≡ atBases
+    faults-are = told ∙ ap (λ (k : List ℕ). addressFaults Space.Device W k 0 (length device) t) read ∙ told-alone Space.Device W (length device) t bases
 
     -- lane i's change, with the register c
     abbrev to : ℕ → ℕ → ℕ → ℕ

@@ -5,7 +5,7 @@ use lib.ListN.{length, getD}
 use Rattle.instructions.specs.declared.instr.Op.{Op}
 use Rattle.instructions.specs.declared.instr.Space.{Space}
 use Rattle.instructions.specs.declared.instr.Instr.{Instr}
-use Rattle.arith.specs.Arith.{addressOf, divides}
+use Rattle.arith.specs.Arith.{divides}
 use Rattle.faulting.specs.Kinds.{lanesOfKind}
 use Rattle.faulting.specs.Causes.{divisorFault, kindsOf}
 use Rattle.faulting.proofs.KindsApart.{
@@ -19,6 +19,7 @@ use Rattle.faulting.proofs.KindsApart.{
   no-faults-form,
   unfaulted-form,
   address-form,
+  sum-form,
   divisor-form,
 }
 use Rattle.compute.specs.declared.Shape.{Shape}
@@ -50,8 +51,8 @@ form-by (Op.Compare o) x W t y a b = unfaulted-form W t
 form-by (Op.One o) x W t y a b = unfaulted-form W t
 form-by Op.Special x W t y a b = unfaulted-form W t
 form-by Op.Number x W t y a b = unfaulted-form W t
-form-by (Op.Load s) x W t y a b = address-form s W t (length (memoryOf s y)) (λ i. addressOf (a i) (x .number))
-form-by (Op.Store s) x W t y a b = address-form s W t (length (memoryOf s y)) (λ i. addressOf (a i) (x .number))
+form-by (Op.Load s) x W t y a b = sum-form s W t (length (memoryOf s y)) (x .number) a
+form-by (Op.Store s) x W t y a b = sum-form s W t (length (memoryOf s y)) (x .number) a
 form-by (Op.Atomic o) x W t y a b = address-form Space.Device W t (length (y .device)) a
 form-by Op.Cas x W t y a b = address-form Space.Device W t (length (y .device)) a
 form-by (Op.Control o) x W t y a b = unfaulted-form W t

@@ -6,6 +6,7 @@ pub mod Walking
 pub mod Standing
 pub mod Settling
 pub mod Dividing
+pub mod Addressing
 pub mod Arms
 pub mod Carrying
 pub mod FaultLanes

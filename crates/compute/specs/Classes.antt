@@ -12,7 +12,7 @@ use Rattle.instructions.specs.declared.instr.Instr.{Instr}
 use Rattle.arith.specs.Arith.{divides}
 use Rattle.faulting.specs.declared.faults.Faults.{Faults}
 use Rattle.faulting.specs.Kinds.{clear}
-use Rattle.faulting.specs.Causes.{divisorFault, kindsOf, addressFaults}
+use Rattle.faulting.specs.Causes.{sumFault, divisorFault, kindsOf}
 use Rattle.compute.specs.declared.Shape.{Shape}
 use Rattle.compute.specs.Registers.{gatherOf, writeLanes}
 use Rattle.compute.specs.Memory.{addressesOf, changesOf}
@@ -43,9 +43,10 @@ dividingFaults o shape regs b t = kindsOf (shape .width) t (λ i. cond (divides 
 abbrev pub reached : Shape → Instr → List ℕ → List ℕ
 reached shape x regs = addressesOf (shape .width) (gatherOf shape regs (x .rs1)) (x .number)
 
--- their faults, in a memory
+-- its faults, in a memory
 abbrev pub reachFaults : Space → Shape → Instr → ℕ → List ℕ → List ℕ → Faults
-reachFaults space shape x t regs memory = addressFaults space (shape .width) (reached shape x regs) (length memory) t
+reachFaults space shape x t regs memory =
+    kindsOf (shape .width) t (λ i. sumFault space (length memory) (getD (gatherOf shape regs (x .rs1)) i 0) (x .number))
 
 -- a load from one memory
 abbrev pub Loads : Space → Shape → Instr → ℕ → List ℕ → Faults → List ℕ → List ℕ → Type 0

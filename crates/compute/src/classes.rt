@@ -114,7 +114,7 @@ fn load_through(
 {
     let width = shape.width;
     let at = addresses(shape, regs, x.rs1, x.number);
-    let faults = address_faults(space, at, memory.len(), t, width);
+    let faults = address_faults(space, at, x.number, memory.len(), t, width);
     let value = load_lanes(&at, memory, width);
     write_results(Results { value, faults }, t, x.rd, shape, regs)
 }
@@ -132,7 +132,7 @@ fn store_through(
     ensures { λ r. ⌜ Stores space shape x t (lanesIn shape (now (regs .entry))) r (now (memory .entry)) (now (memory .exit)) ⌝ }
 {
     let at = addresses(shape, regs, x.rs1, x.number);
-    let faults = address_faults(space, at, memory.len(), t, shape.width);
+    let faults = address_faults(space, at, x.number, memory.len(), t, shape.width);
     if is_clear(faults) {
         store_lanes(&at, t, x.rd, shape, regs, memory);
     }
@@ -187,6 +187,9 @@ fn desired(change: Change, x: Instr) -> u8
     }
 }
 
+// What is added to an atomic's base.
+const NO_OFFSET: u32 = 0;
+
 // An atomic, on device memory.
 pub(crate) fn carry_change(
     change: Change,
@@ -201,7 +204,7 @@ pub(crate) fn carry_change(
 {
     let rs3 = desired(change, x);
     let at = gather(shape, regs, x.rs1);
-    let faults = address_faults(Space::Device, at, device.len(), t, shape.width);
+    let faults = address_faults(Space::Device, at, NO_OFFSET, device.len(), t, shape.width);
     if is_clear(faults) {
         let value = change_lanes(change, &at, t, x.rs2, rs3, shape, regs, device);
         return write_results(Results { value, faults }, t, x.rd, shape, regs);

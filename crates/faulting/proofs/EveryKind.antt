@@ -96,7 +96,7 @@ value-at lanes n (suc c) zero h = let e : n + 0 ≡ n = omega arith in rw e refl
 value-at lanes n (suc c) (suc j) h = let e : n + suc j ≡ suc n + j = omega arith in rw e (value-at lanes (suc n) c j (omega arith))
 
 pub lanes-at : (f : Faults) (k : ℕ) → 1 ≤ k → k ≤ kinds
-    → getD (f .odd ∷ f .device ∷ f .local ∷ f .divisor ∷ f .barrier ∷ []) (k - 1) 0 ≡ lanesOfKind k f
+    → getD (f .odd ∷ f .device ∷ f .local ∷ f .divisor ∷ f .barrier ∷ f .over ∷ []) (k - 1) 0 ≡ lanesOfKind k f
 unfolding lanesAmong
 lanes-at f k a b =
     let e : 1 + (k - 1) ≡ k = omega arith in

@@ -15,7 +15,7 @@ use Rattle.lanes.proofs.Members.{has-set-of, has-past, has-ext}
 use Rattle.lanes.proofs.Picking.{set-of-none}
 use Rattle.instructions.specs.declared.instr.Space.{Space}
 use Rattle.faulting.specs.Kinds.{pastKind, noFaults, ofAddresses, ofDivisors}
-use Rattle.faulting.specs.Causes.{isOdd, isPast, addressFault, divisorFault, faultLanes, kindsOf}
+use Rattle.faulting.specs.Causes.{divisorFault, faultLanes, kindsOf}
 use Rattle.faulting.proofs.EveryKind.{faults-same}
 
 -- the lanes of a kind, by a test
@@ -76,58 +76,84 @@ idle-kinds W t kind h = faults-same (faultLanes W t kind) (λ k. 0) (λ k. lanes
 
 -- ---- addresses
 
--- the kind of an address, of its two tests
-abbrev kindBy : Space → Bool → Bool → ℕ
-kindBy s odd past = cond odd 1 (cond past (pastKind s) 0)
+-- the kind of an address, of its three tests
+abbrev pub kindBy : Space → Bool → Bool → Bool → ℕ
+kindBy s over odd past = cond over 6 (cond odd 1 (cond past (pastKind s) 0))
 
-odd-kind : (s : Space) (odd past : Bool) → eqb (kindBy s odd past) 1 ≡ odd
-odd-kind s true past = refl
-odd-kind Space.Device false true = refl
-odd-kind Space.Local false true = refl
-odd-kind s false false = refl
+over-kind : (s : Space) (over odd past : Bool) → eqb (kindBy s over odd past) 6 ≡ over
+over-kind s true odd past = refl
+over-kind s false true past = refl
+over-kind Space.Device false false true = refl
+over-kind Space.Local false false true = refl
+over-kind s false false false = refl
 
-past-kind : (s : Space) (odd past : Bool) → eqb (kindBy s odd past) (pastKind s) ≡ (not odd && past)
-past-kind Space.Device true past = refl
-past-kind Space.Local true past = refl
-past-kind Space.Device false true = refl
-past-kind Space.Local false true = refl
-past-kind Space.Device false false = refl
-past-kind Space.Local false false = refl
+odd-kind : (s : Space) (over odd past : Bool) → eqb (kindBy s over odd past) 1 ≡ (not over && odd)
+odd-kind s true odd past = refl
+odd-kind s false true past = refl
+odd-kind Space.Device false false true = refl
+odd-kind Space.Local false false true = refl
+odd-kind s false false false = refl
+
+past-kind : (s : Space) (over odd past : Bool) → eqb (kindBy s over odd past) (pastKind s) ≡ (not over && (not odd && past))
+past-kind Space.Device true odd past = refl
+past-kind Space.Local true odd past = refl
+past-kind Space.Device false true past = refl
+past-kind Space.Local false true past = refl
+past-kind Space.Device false false true = refl
+past-kind Space.Local false false true = refl
+past-kind Space.Device false false false = refl
+past-kind Space.Local false false false = refl
 
 -- it is no other
-other-kind : (s : Space) (odd past : Bool) (k : ℕ) → (suc k ≡ 1 → ⊥) → (suc k ≡ pastKind s → ⊥) → eqb (kindBy s odd past) (suc k) ≡ false
-other-kind s true past k a b = ne-eqb 1 (suc k) (λ e. a (sym e))
-other-kind s false true k a b = ne-eqb (pastKind s) (suc k) (λ e. b (sym e))
-other-kind s false false k a b = ne-eqb 0 (suc k) (λ e. omega arith)
+other-kind : (s : Space) (over odd past : Bool) (k : ℕ) → (suc k ≡ 6 → ⊥) → (suc k ≡ 1 → ⊥) → (suc k ≡ pastKind s → ⊥)
+    → eqb (kindBy s over odd past) (suc k) ≡ false
+other-kind s true odd past k a b c = ne-eqb 6 (suc k) (λ e. a (sym e))
+other-kind s false true past k a b c = ne-eqb 1 (suc k) (λ e. b (sym e))
+other-kind s false false true k a b c = ne-eqb (pastKind s) (suc k) (λ e. c (sym e))
+other-kind s false false false k a b c = ne-eqb 0 (suc k) (λ e. omega arith)
 
--- the kinds that addresses have, by the memory
-module _ (W t words : ℕ) (at : ℕ → ℕ) (s : Space) where
+-- the kinds that addresses have, by the memory and which of them are over, odd and past it
+module _ (W t : ℕ) (s : Space) (isOver isOdd isPast : ℕ → Bool) where
   abbrev kindIn : ℕ → ℕ
-  kindIn i = addressFault s words (at i)
+  kindIn i = kindBy s (isOver i) (isOdd i) (isPast i)
 
-  pub no-other : (k : ℕ) → (suc k ≡ 1 → ⊥) → (suc k ≡ pastKind s → ⊥) → faultLanes W t kindIn (suc k) ≡ 0
-  no-other k a b = lanes-none W t _ (suc k) (λ i l. other-kind s (isOdd (at i)) (isPast words (at i)) k a b)
+  pub no-other : (k : ℕ) → (suc k ≡ 6 → ⊥) → (suc k ≡ 1 → ⊥) → (suc k ≡ pastKind s → ⊥) → faultLanes W t kindIn (suc k) ≡ 0
+  no-other k a b c = lanes-none W t _ (suc k) (λ i l. other-kind s (isOver i) (isOdd i) (isPast i) k a b c)
 
-  -- from the code's two tests
-  module _ (odd past : ℕ) (o : odd ≡ setOf W (λ i. has t i && isOdd (at i)))
-      (p : past ≡ setOf W (λ i. has t i && (not (isOdd (at i)) && isPast words (at i)))) where
-    odd-lanes : odd ≡ faultLanes W t kindIn 1
-    odd-lanes = o ∙ sym (lanes-by W t _ 1 _ (λ i b. odd-kind s (isOdd (at i)) (isPast words (at i))))
+  -- from the code's three tests
+  module _ (over odd past : ℕ) (v : over ≡ setOf W (λ i. has t i && isOver i)) (o : odd ≡ setOf W (λ i. has t i && (not (isOver i) && isOdd i)))
+      (p : past ≡ setOf W (λ i. has t i && (not (isOver i) && (not (isOdd i) && isPast i)))) where
+    abbrev Lanes : ℕ → ℕ → Type 0
+    Lanes set k = set ≡ faultLanes W t kindIn k
 
-    past-lanes : past ≡ faultLanes W t kindIn (pastKind s)
-    past-lanes = p ∙ sym (lanes-by W t _ (pastKind s) _ (λ i b. past-kind s (isOdd (at i)) (isPast words (at i))))
+    over-lanes : Lanes over 6
+    over-lanes = v ∙ sym (lanes-by W t _ 6 _ (λ i b. over-kind s (isOver i) (isOdd i) (isPast i)))
 
-    of-kind : (k : ℕ) → cond (eqb (suc k) 1) odd (cond (eqb (suc k) (pastKind s)) past 0) ≡ faultLanes W t kindIn (suc k)
+    odd-lanes : Lanes odd 1
+    odd-lanes = o ∙ sym (lanes-by W t _ 1 _ (λ i b. odd-kind s (isOver i) (isOdd i) (isPast i)))
+
+    past-lanes : Lanes past (pastKind s)
+    past-lanes = p ∙ sym (lanes-by W t _ (pastKind s) _ (λ i b. past-kind s (isOver i) (isOdd i) (isPast i)))
+
+    -- of number k, where that is a kind's
+    numbered : (set j k : ℕ) → Lanes set j → eqb k j ≡ true → Lanes set k
+    numbered set j k h e = h ∙ ap (faultLanes W t kindIn) (sym (eqb-true k j e))
+
+    of-kind : (k : ℕ) → Lanes (cond (eqb (suc k) 6) over (cond (eqb (suc k) 1) odd (cond (eqb (suc k) (pastKind s)) past 0))) (suc k)
     of-kind k =
-        cond-by (λ (l : ℕ). l ≡ faultLanes W t kindIn (suc k)) (eqb (suc k) 1) odd _
-        (λ a. odd-lanes ∙ ap (faultLanes W t kindIn) (sym (eqb-true (suc k) 1 a)))
+        cond-by (λ (l : ℕ). Lanes l (suc k)) (eqb (suc k) 6) over _ (numbered over 6 (suc k) over-lanes)
         (λ a.
-        cond-by (λ (l : ℕ). l ≡ faultLanes W t kindIn (suc k)) (eqb (suc k) (pastKind s)) past 0
-        (λ b. past-lanes ∙ ap (faultLanes W t kindIn) (sym (eqb-true (suc k) (pastKind s) b)))
-        (λ b. sym (no-other k (λ e. never (sym a ∙ eq-eqb _ _ e)) (λ e. never (sym b ∙ eq-eqb _ _ e)))))
+        cond-by (λ (l : ℕ). Lanes l (suc k)) (eqb (suc k) 1) odd _ (numbered odd 1 (suc k) odd-lanes)
+        (λ b.
+        cond-by (λ (l : ℕ). Lanes l (suc k)) (eqb (suc k) (pastKind s)) past 0 (numbered past (pastKind s) (suc k) past-lanes)
+        (λ c. sym (no-other k (other a) (other b) (other c)))))
+      where
+        other : {j k : ℕ} → eqb k j ≡ false → k ≡ j → ⊥
+        other h e = never (sym h ∙ eq-eqb _ _ e)
 
-    pub address-kinds : ofAddresses s odd past ≡ kindsOf W t kindIn
-    address-kinds = faults-same (λ k. cond (eqb k 1) odd (cond (eqb k (pastKind s)) past 0)) (faultLanes W t kindIn) of-kind
+    pub address-kinds : ofAddresses s over odd past ≡ kindsOf W t kindIn
+    address-kinds =
+        faults-same (λ k. cond (eqb k 6) over (cond (eqb k 1) odd (cond (eqb k (pastKind s)) past 0))) (faultLanes W t kindIn) of-kind
 
 -- ---- divisors
 

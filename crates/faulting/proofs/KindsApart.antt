@@ -11,11 +11,12 @@ use Rattle.ground.proofs.Choices.{cond-by}
 use Rattle.lanes.specs.Sets.{has}
 use Rattle.lanes.proofs.Members.{has-and, has-zero, has-ext}
 use Rattle.instructions.specs.declared.instr.Space.{Space}
+use Rattle.arith.specs.Arith.{addressOf}
 use Rattle.faulting.specs.declared.faults.Faults.{Faults}
 use Rattle.faulting.specs.Kinds.{pastKind, ofKinds, lanesOfKind, noFaults, ofBarrier}
-use Rattle.faulting.specs.Causes.{addressFault, divisorFault, faultLanes, kindsOf}
+use Rattle.faulting.specs.Causes.{isOdd, isPast, isOver, addressFault, sumFault, divisorFault, faultLanes, kindsOf}
 use Rattle.faulting.proofs.EveryKind.{of-each-kind, isIn, not-first, not-rest, Only}
-use Rattle.faulting.proofs.FaultKinds.{has-fault, no-kinds, no-other, none-but-divisors}
+use Rattle.faulting.proofs.FaultKinds.{has-fault, no-kinds, kindBy, no-other, none-but-divisors}
 
 -- ---- the lanes of one kind
 
@@ -91,11 +92,11 @@ barrier-apart lanes =
     (λ f. and-zero-r lanes))
     (λ e. and-zero-l (cond (eqb (suc l) 5) lanes 0)))
 
--- ---- the kinds that come together: 1 with 2, 1 with 3, or 4 alone
+-- ---- the kinds that come together: 1 and 6 with 2, 1 and 6 with 3, or 4 alone
 
 pub data Form (f : Faults) : Type 0 where
-  at-device : Only (1 ∷ 2 ∷ []) f → Form f
-  at-local : Only (1 ∷ 3 ∷ []) f → Form f
+  at-device : Only (1 ∷ 2 ∷ 6 ∷ []) f → Form f
+  at-local : Only (1 ∷ 3 ∷ 6 ∷ []) f → Form f
   dividing : Only (4 ∷ []) f → Form f
 
 none-only : (ks : List ℕ) → Only ks noFaults
@@ -107,17 +108,28 @@ no-faults-form = dividing (none-only (4 ∷ []))
 pub unfaulted-form : (W t : ℕ) → Form (kindsOf W t (λ i. 0))
 unfaulted-form W t = subst Form (no-kinds W t (λ i. 0) (λ i b. refl)) no-faults-form
 
-address-only : (s : Space) (W t words : ℕ) (at : ℕ → ℕ) → Only (1 ∷ pastKind s ∷ []) (kindsOf W t (λ i. addressFault s words (at i)))
-address-only s W t words at =
-    of-each-kind (λ (k set : ℕ). isIn k (1 ∷ pastKind s ∷ []) ≡ false → set ≡ 0) (faultLanes W t _)
+-- the kinds of addresses that are over, odd and past their memory as told
+address-only : (s : Space) (W t : ℕ) (over odd past : ℕ → Bool)
+    → Only (1 ∷ pastKind s ∷ 6 ∷ []) (kindsOf W t (λ i. kindBy s (over i) (odd i) (past i)))
+address-only s W t over odd past =
+    of-each-kind (λ (k set : ℕ). isIn k (1 ∷ pastKind s ∷ 6 ∷ []) ≡ false → set ≡ 0) (faultLanes W t _)
     (λ k h.
-    no-other W t words at s k (not-first (suc k) 1 (pastKind s ∷ []) h)
-    (not-first (suc k) (pastKind s) [] (not-rest (suc k) 1 (pastKind s ∷ []) h)))
+    let past-or-over = not-rest (suc k) 1 (pastKind s ∷ 6 ∷ []) h in
+    no-other W t s over odd past k (not-first (suc k) 6 [] (not-rest (suc k) (pastKind s) (6 ∷ []) past-or-over))
+    (not-first (suc k) 1 (pastKind s ∷ 6 ∷ []) h) (not-first (suc k) (pastKind s) (6 ∷ []) past-or-over))
     (λ k h. refl)
 
+form-at : (s : Space) (W t : ℕ) (over odd past : ℕ → Bool) → Form (kindsOf W t (λ i. kindBy s (over i) (odd i) (past i)))
+form-at Space.Device W t over odd past = at-device (address-only Space.Device W t over odd past)
+form-at Space.Local W t over odd past = at-local (address-only Space.Local W t over odd past)
+
+-- of addresses, and of bases with an offset
 pub address-form : (s : Space) (W t words : ℕ) (at : ℕ → ℕ) → Form (kindsOf W t (λ i. addressFault s words (at i)))
-address-form Space.Device W t words at = at-device (address-only Space.Device W t words at)
-address-form Space.Local W t words at = at-local (address-only Space.Local W t words at)
+address-form s W t words at = form-at s W t (λ i. false) (λ i. isOdd (at i)) (λ i. isPast words (at i))
+
+pub sum-form : (s : Space) (W t words offset : ℕ) (base : ℕ → ℕ) → Form (kindsOf W t (λ i. sumFault s words (base i) offset))
+sum-form s W t words offset base =
+    form-at s W t (λ i. isOver (base i) offset) (λ i. isOdd (addressOf (base i) offset)) (λ i. isPast words (addressOf (base i) offset))
 
 pub divisor-form : (W t : ℕ) (at : ℕ → ℕ) → Form (kindsOf W t (λ i. divisorFault (at i)))
 divisor-form W t at =

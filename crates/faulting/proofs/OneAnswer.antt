@@ -7,7 +7,8 @@ use lib.ListN.{getD}
 use Rattle.instructions.specs.declared.instr.Space.{Space}
 use Rattle.faulting.specs.declared.faults.Faults.{Faults}
 use Rattle.faulting.specs.Kinds.{ofKinds, noFaults, ofBarrier, clear, lanesOfKind}
-use Rattle.faulting.specs.Causes.{addressFaults, divisorFaults}
+use Rattle.faulting.specs.Causes.{divisorFaults}
+use Rattle.faulting.specs.Told.{addressFaults}
 
 pub no-faults-once : (r q : Faults) → r ≡ noFaults → q ≡ noFaults → r ≡ q
 no-faults-once r q e g = e ∙ sym g
@@ -24,8 +25,9 @@ is-clear-once f r q e g = e ∙ sym g
 pub lanes-of-kind-once : (k : ℕ) (f : Faults) (r q : ℕ) → r ≡ lanesOfKind k f → q ≡ lanesOfKind k f → r ≡ q
 lanes-of-kind-once k f r q e g = e ∙ sym g
 
-pub address-faults-once : (s : Space) (W : ℕ) (at : List ℕ) (words t : ℕ) (r q : Faults) → r ≡ addressFaults s W at words t → q ≡ addressFaults s W at words t → r ≡ q
-address-faults-once s W at words t r q e g = e ∙ sym g
+pub address-faults-once : (s : Space) (W : ℕ) (at : List ℕ) (offset words t : ℕ) (r q : Faults) → r ≡ addressFaults s W at offset words t
+    → q ≡ addressFaults s W at offset words t → r ≡ q
+address-faults-once s W at offset words t r q e g = e ∙ sym g
 
 pub divisor-faults-once : (W : ℕ) (divisors : List ℕ) (t : ℕ) (r q : Faults) → r ≡ divisorFaults W divisors t → q ≡ divisorFaults W divisors t → r ≡ q
 divisor-faults-once W divisors t r q e g = e ∙ sym g

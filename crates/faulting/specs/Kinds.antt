@@ -1,4 +1,4 @@
--- The kinds of faults, each with its lanes. Page 01, "One step".
+-- The kinds of faults, each with its lanes. Page 01, "One step"; kind 6 by page 02.
 use Prim.Native.Nat.{ℕ}
 use mathlib.Core.Bool.{Bool, true, _&&_, cond}
 use mathlib.Core.List.{List, [], _∷_}
@@ -13,15 +13,15 @@ fault kind lanes = record { kind = kind; lanes = lanes }
 
 -- how many kinds there are
 abbrev pub kinds : ℕ
-kinds = 5
+kinds = 6
 
 -- every kind with its lanes, in rising order
 abbrev pub every : Faults → List Fault
-every f = fault 1 (f .odd) ∷ fault 2 (f .device) ∷ fault 3 (f .local) ∷ fault 4 (f .divisor) ∷ fault 5 (f .barrier) ∷ []
+every f = fault 1 (f .odd) ∷ fault 2 (f .device) ∷ fault 3 (f .local) ∷ fault 4 (f .divisor) ∷ fault 5 (f .barrier) ∷ fault 6 (f .over) ∷ []
 
 -- the faults whose lanes of kind k are `lanes k`
 abbrev pub ofKinds : (ℕ → ℕ) → Faults
-ofKinds lanes = record { odd = lanes 1; device = lanes 2; local = lanes 3; divisor = lanes 4; barrier = lanes 5 }
+ofKinds lanes = record { odd = lanes 1; device = lanes 2; local = lanes 3; divisor = lanes 4; barrier = lanes 5; over = lanes 6 }
 
 -- no kind of a list has lanes; and so no lane faults
 abbrev pub noLanes : List Fault → Bool
@@ -58,9 +58,10 @@ abbrev pub pastKind : Space → ℕ
 pastKind Space.Device = 2
 pastKind Space.Local = 3
 
--- of addresses: the lanes whose address is not a multiple of 4, and those whose address is one and past the memory
-abbrev pub ofAddresses : Space → ℕ → ℕ → Faults
-ofAddresses s odd past = ofKinds (λ k. cond (eqb k 1) odd (cond (eqb k (pastKind s)) past 0))
+-- of addresses: the lanes whose base plus offset reaches 2^32, those whose address is not a multiple of 4, and those whose address is past
+-- the memory
+abbrev pub ofAddresses : Space → ℕ → ℕ → ℕ → Faults
+ofAddresses s over odd past = ofKinds (λ k. cond (eqb k 6) over (cond (eqb k 1) odd (cond (eqb k (pastKind s)) past 0)))
 
 -- of divisors, and of a barrier
 abbrev pub ofDivisors : ℕ → Faults

@@ -8,16 +8,17 @@ use instructions::instr::Space;
 use lanes::Lanes;
 
 // How many kinds there are: their numbers are 1 to this.
-pub const KINDS: usize = 5;
+pub const KINDS: usize = 6;
 
 // The lanes of each kind of fault: 1 an address that is not a multiple of 4, 2 device and 3 local address past the memory, 4 a divisor
-// of zero, 5 a barrier that some lane has not reached.
+// of zero, 5 a barrier that some lane has not reached, 6 a base plus an offset that reaches 2^32.
 pub struct Faults {
     pub odd: Lanes,
     pub device: Lanes,
     pub local: Lanes,
     pub divisor: Lanes,
     pub barrier: Lanes,
+    pub over: Lanes,
 }
 
 // No fault.
@@ -30,6 +31,7 @@ pub fn no_faults() -> Faults
         local: 0,
         divisor: 0,
         barrier: 0,
+        over: 0,
     }
 }
 
@@ -43,12 +45,14 @@ pub fn from_lanes(lanes: [Lanes; KINDS]) -> Faults
         local: lanes[2],
         divisor: lanes[3],
         barrier: lanes[4],
+        over: lanes[5],
     }
 }
 
-// The faults of addresses: the lanes whose address is not a multiple of 4, and those whose address is one and past the memory.
-pub(crate) fn of_addresses(space: Space, odd: Lanes, past: Lanes) -> Faults
-    ensures { λ r. ⌜ r ≡ ofAddresses space odd past ⌝ }
+// The faults of addresses: the lanes whose base plus offset reaches 2^32, those whose address is not a multiple of 4, and those whose
+// address is past the memory.
+pub(crate) fn of_addresses(space: Space, over: Lanes, odd: Lanes, past: Lanes) -> Faults
+    ensures { λ r. ⌜ r ≡ ofAddresses space over odd past ⌝ }
 {
     match space {
         Space::Device => Faults {
@@ -57,6 +61,7 @@ pub(crate) fn of_addresses(space: Space, odd: Lanes, past: Lanes) -> Faults
             local: 0,
             divisor: 0,
             barrier: 0,
+            over,
         },
         Space::Local => Faults {
             odd,
@@ -64,6 +69,7 @@ pub(crate) fn of_addresses(space: Space, odd: Lanes, past: Lanes) -> Faults
             local: past,
             divisor: 0,
             barrier: 0,
+            over,
         },
     }
 }
@@ -78,6 +84,7 @@ pub(crate) fn of_divisors(lanes: Lanes) -> Faults
         local: 0,
         divisor: lanes,
         barrier: 0,
+        over: 0,
     }
 }
 
@@ -91,6 +98,7 @@ pub fn of_barrier(lanes: Lanes) -> Faults
         local: 0,
         divisor: 0,
         barrier: lanes,
+        over: 0,
     }
 }
 
@@ -98,14 +106,19 @@ pub fn of_barrier(lanes: Lanes) -> Faults
 pub fn is_clear(f: Faults) -> bool
     ensures { λ r. ⌜ r ≡ clear f ⌝ }
 {
-    (f.odd == 0) & (f.device == 0) & (f.local == 0) & (f.divisor == 0) & (f.barrier == 0)
+    (f.odd == 0)
+        & (f.device == 0)
+        & (f.local == 0)
+        & (f.divisor == 0)
+        & (f.barrier == 0)
+        & (f.over == 0)
 }
 
 // The lanes of a kind, by its number; none where there is no such kind.
 pub fn lanes_of_kind(kind: usize, f: Faults) -> Lanes
     ensures { λ r. ⌜ r ≡ lanesOfKind kind f ⌝ }
 {
-    let lanes = [f.odd, f.device, f.local, f.divisor, f.barrier];
+    let lanes = [f.odd, f.device, f.local, f.divisor, f.barrier, f.over];
     if kind < 1 {
         return 0;
     }

@@ -61,8 +61,8 @@ only-fits ks f h o c =
 
 faulty-fits : (f : Faults) → Faulty f → clear f ≡ false → oneOf (numbersIn (listed f)) kindLists ≡ true
 unfolding kindLists oneOf sameList
-faulty-fits f (at-work (at-device o)) c = only-fits (1 ∷ 2 ∷ []) f refl o c
-faulty-fits f (at-work (at-local o)) c = only-fits (1 ∷ 3 ∷ []) f refl o c
+faulty-fits f (at-work (at-device o)) c = only-fits (1 ∷ 2 ∷ 6 ∷ []) f refl o c
+faulty-fits f (at-work (at-local o)) c = only-fits (1 ∷ 3 ∷ 6 ∷ []) f refl o c
 faulty-fits f (at-work (dividing o)) c = only-fits (4 ∷ []) f refl o c
 faulty-fits f (at-barrier o) c = only-fits (5 ∷ []) f refl o c
 

@@ -64,7 +64,7 @@ module _ (f : List ℕ) (short : length f ≤ mostBytes) where
   unfolding textOf
   text-refused k h e = simp (le-ltb mostBytes (length f) short, ne-eqb (refusalOf page f) 0 h) (rw e)
 
--- every text fits a buffer of 160,000 bytes
+-- every text fits a buffer of 176,000 bytes
 pub text-room : (f : List ℕ) → length (textOf f) ≤ textRoom
 unfolding textOf
 text-room f =

@@ -15,7 +15,7 @@ abbrev pub mostBytes : ℕ
 mostBytes = 65536
 
 abbrev pub textRoom : ℕ
-textRoom = 160000
+textRoom = 176000
 
 abbrev pub space : ℕ
 space = 32

@@ -17,7 +17,7 @@ ghost use Rattle.listing.specs.Text.{newline, refusedText, textOf};
 pub const MOST_BYTES: usize = 65536;
 
 // A buffer of this length holds every text.
-pub const TEXT_ROOM: usize = 160000;
+pub const TEXT_ROOM: usize = 176000;
 
 // Puts the line of a refused file.
 fn put_refusal(out: &mut [u8], number: u32) -> usize
@@ -27,7 +27,7 @@ fn put_refusal(out: &mut [u8], number: u32) -> usize
     put_field(out, q, number as u64, b'\n')
 }
 
-// Puts the text for a file at the front of `out`, as far as it fits, and answers its length, at most 160,000: a line for each
+// Puts the text for a file at the front of `out`, as far as it fits, and answers its length, at most 176,000: a line for each
 // record of an accepted file and its total, one line for a refused file, and one for a file over 64 KiB.
 pub fn list(file: &[u8], out: &mut [u8]) -> usize
     ensures { λ r. ⌜ Puts (now (out .entry)) 0 (textOf (now (file .entry))) r (now (out .exit)) ⌝ }

@@ -44,7 +44,7 @@ use Rattle.formats.specs.Format.{bytesIn, number, both, counted, seenAs}
 use Rattle.body.specs.Body.{Parts, faultFormat, blockFormat, bodyFormat, bytesOfBody}
 use Rattle.body.specs.Layout.{kindLists, apart, faultsFit, blockFits, ofLayout, fitsLayout}
 use Rattle.key.specs.Key.{blocksOf, partsOf, bodyKey, outcomeKey, keyOf}
-use Rattle.marked.specs.Table.{Answer, ended, faulted, least, Open, settings, written, launched, launching, Gives, Each, all, _&_, t12, t13, t14, table}
+use Rattle.marked.specs.Table.{Answer, ended, faulted, least, Open, settings, written, launched, launching, Gives, Each, all, _&_, t11, t12, t13, t14, table}
 
 -- ---- a launch with budget enough
 
@@ -116,32 +116,53 @@ lawful n words some few short checked b =
       checked = checked;
     }
 
--- what the bodies of T13 and T14 say: a division by zero of lane 0; in T14's loop, opened at 5 and entered by three lanes, of which lane 1 broke it
-abbrev parts : ℕ → ℕ → List Block → Parts
-parts place active blocks =
-    record { kernel = 7; place = place; faults = record { kind = 4; lanes = 1 } ∷ []; active = active; halted = 0; blocks = blocks }
+-- what the bodies say: T11's that both lanes' sums reach 2^32; T13's and T14's a division by zero of lane 0, in T14's loop, opened at 5 and
+-- entered by three lanes, of which lane 1 broke it
+abbrev parts : ℕ → Fault → ℕ → List Block → Parts
+parts place fault active blocks = record { kernel = 7; place = place; faults = fault ∷ []; active = active; halted = 0; blocks = blocks }
+
+abbrev over : Fault
+over = record { kind = 6; lanes = 3 }
+
+abbrev divided : Fault
+divided = record { kind = 4; lanes = 1 }
 
 abbrev broken : List Block
 broken = record { part = 3; opener = 5; entered = 7; aside = 2; again = 0; left = 0 } ∷ []
 
-layout : (fitsLayout (parts 1 3 []) ≡ true) × (length (bytesOfBody (parts 1 3 [])) ≡ 32) × (fitsLayout (parts 7 5 broken) ≡ true)
-    × (length (bytesOfBody (parts 7 5 broken)) ≡ 56)
-unfolding ofLayout faultsFit blockFits kindLists apart sameList oneOf allOf flatMap bytesIn number both counted seenAs faultFormat blockFormat bodyFormat
-layout = (refl, refl, refl, refl)
+abbrev t11-body : Parts
+t11-body = parts 2 over 3 []
 
-bodies : (bytesOfBody (parts 1 3 []) ≡ bytesOfAll (7 ∷ 1 ∷ 1 ∷ 4 ∷ 1 ∷ 3 ∷ 0 ∷ 0 ∷ []))
-    × (bytesOfBody (parts 7 5 broken) ≡ bytesOfAll (7 ∷ 7 ∷ 1 ∷ 4 ∷ 1 ∷ 5 ∷ 0 ∷ 1 ∷ 3 ∷ 5 ∷ 7 ∷ 2 ∷ 0 ∷ 0 ∷ []))
+abbrev t13-body : Parts
+t13-body = parts 1 divided 3 []
+
+abbrev t14-body : Parts
+t14-body = parts 7 divided 5 broken
+
+layout : (fitsLayout t11-body ≡ true) × (fitsLayout t13-body ≡ true) × (fitsLayout t14-body ≡ true)
+unfolding ofLayout faultsFit blockFits kindLists apart sameList oneOf allOf flatMap bytesIn number both counted seenAs faultFormat blockFormat bodyFormat
+layout = (refl, refl, refl)
+
+lengths : (length (bytesOfBody t11-body) ≡ 32) × (length (bytesOfBody t13-body) ≡ 32) × (length (bytesOfBody t14-body) ≡ 56)
+unfolding flatMap bytesIn number both counted seenAs faultFormat blockFormat bodyFormat
+lengths = (refl, refl, refl)
+
+bodies : (bytesOfBody t11-body ≡ bytesOfAll (7 ∷ 2 ∷ 1 ∷ 6 ∷ 3 ∷ 3 ∷ 0 ∷ 0 ∷ []))
+    × (bytesOfBody t13-body ≡ bytesOfAll (7 ∷ 1 ∷ 1 ∷ 4 ∷ 1 ∷ 3 ∷ 0 ∷ 0 ∷ []))
+    × (bytesOfBody t14-body ≡ bytesOfAll (7 ∷ 7 ∷ 1 ∷ 4 ∷ 1 ∷ 5 ∷ 0 ∷ 1 ∷ 3 ∷ 5 ∷ 7 ∷ 2 ∷ 0 ∷ 0 ∷ []))
 unfolding flatMap bytesOf bytesOfAll bytesIn number both counted seenAs faultFormat blockFormat bodyFormat
-bodies = (refl, refl)
+bodies = (refl, refl, refl)
 
 -- THE MARKED TABLE
 pub marked : Each table
 unfolding flatMap tabulate inOrder bit has without first only setOf fetchAt itemAt inLoop blocks.react blocks.ended blocks.step blocks.scan blocks.run control.controlRule control.faultLanes slot byLane gatherOf writeLanes changesOf resultsOf predicateOf faultLanes faultsOf afterOf carriedOf stepOf runOf blocksOf partsOf outcomeKey keyOf
 marked =
-    refl & refl & refl & refl & refl & refl & refl & refl & refl & refl & refl & refl & refl
+    refl & refl & refl & refl & refl & refl & refl & refl & refl & refl & refl & refl
+    & gives 8 2 2 t11 _ (lawful 2 t11 refl refl refl refl) (λ o e. other-outcome cc)
+    (λ o. ap (faulted 1) (key-bytes t11-body (o .room) (layout .0) (omega (arith, lengths .0, o .roomy)) ∙ bodies .0))
     & gives 8 4 2 t12 (ended 9 (7 ∷ 8 ∷ 2 ∷ 2 ∷ []) 12) (lawful 4 t12 refl refl refl refl) (λ o e. other-outcome cc) (λ o. refl)
     & gives 8 2 2 t13 _ (lawful 2 t13 refl refl refl refl) (λ o e. other-outcome cc)
-    (λ o. ap (faulted 1) (key-bytes (parts 1 3 []) (o .room) (layout .0) (omega (arith, layout .1, o .roomy)) ∙ bodies .0))
+    (λ o. ap (faulted 1) (key-bytes t13-body (o .room) (layout .1) (omega (arith, lengths .1, o .roomy)) ∙ bodies .1))
     & gives 8 3 2 t14 _ (lawful 3 t14 refl refl refl refl) (λ o e. other-outcome cc)
-    (λ o. ap (faulted 5) (key-bytes (parts 7 5 broken) (o .room) (layout .2) (omega (arith, layout .3, o .roomy)) ∙ bodies .1))
+    (λ o. ap (faulted 5) (key-bytes t14-body (o .room) (layout .2) (omega (arith, lengths .2, o .roomy)) ∙ bodies .2))
     & all

@@ -1,4 +1,4 @@
--- The marked table, T1 to T14: one list of cases, and what the page says of each.
+-- The marked table, T1 to T14: one list of cases, and what the pages say of each.
 use mathlib.Core.Path.{_≡_}
 use mathlib.Core.Bool.{Bool, true, false}
 use mathlib.Core.List.{List, [], _∷_}
@@ -11,7 +11,7 @@ use Rattle.refusals.specs.Table.{Rule, broken}
 use Rattle.words.specs.declared.reading.ReadAnswer.{ReadAnswer}
 use Rattle.words.specs.Layout.{instr}
 use Rattle.words.specs.Reading.{readAt}
-use Rattle.arith.specs.Arith.{twoOf, addressOf}
+use Rattle.arith.specs.Arith.{twoOf}
 use Rattle.ground.specs.Lists.{tabulate}
 use Rattle.compute.specs.Registers.{slot}
 use Rattle.stepping.specs.declared.settings.Settings.{Settings}
@@ -24,12 +24,10 @@ use Rattle.key.specs.declared.answer.KeyAnswer.{KeyAnswer}
 use Rattle.key.specs.declared.answer.KeyAnswer.the-variants.{Wrote, Refused}
 use Rattle.key.specs.Key.{Keying, keyOf}
 
--- words to be read; an operation on two numbers; an address of a base and an offset; a launch of so many lanes of a width, with so many
--- registers
+-- words to be read; an operation on two numbers; a launch of so many lanes of a width, with so many registers
 pub data Case : Type 0 where
   reading : List ℕ → Case
   operation : TwoOp → ℕ → ℕ → Case
-  address : ℕ → ℕ → Case
   launching : ℕ → ℕ → ℕ → List ℕ → Case
 
 -- of a run that ends: its steps, register 1 of the launched lanes, the halted lanes; of one that faults: its steps, and kernel 7's key
@@ -85,7 +83,6 @@ launched W n R room a = ran (a .outcome) W n R room a
 abbrev pub Gives : Case → Answer → Type 0
 Gives (reading words) said = read (readAt words 0) ≡ said
 Gives (operation op a b) said = value (twoOf op a b) ≡ said
-Gives (address base offset) said = value (addressOf base offset) ≡ said
 Gives (launching W n R words) said =
     (o : Open W R (least said)) → launched W n R (o .room) (launchOf (settings W n R (o .budget)) words (o .regs) (o .device) (o .local)) ≡ said
 
@@ -110,7 +107,10 @@ one op pred negate rd rs1 rs2 number words =
 abbrev refusal : Rule → Answer
 refusal rule = read (ReadAnswer.Refused (broken rule 0))
 
--- the words of T12, T13 and T14
+-- the words of a load from T11's address, and those of T12, T13 and T14
+abbrev pub t11 : List ℕ
+t11 = 0xF1000000 ∷ 0xFFFFFFFC ∷ 0x30010000 ∷ 0x00000008 ∷ []
+
 abbrev pub t12 : List ℕ
 t12 =
     0xF2000000 ∷ 0xF1010000 ∷ 0x00000002 ∷ 0x2A010000 ∷ 0x01000000 ∷ 0x3F000001 ∷ 0xF1010000 ∷ 0x00000007 ∷ 0x3F000010 ∷ 0x3F000090 ∷ 0x3F000020
@@ -132,14 +132,14 @@ table =
     ∷ entry (reading (0x3F000004 ∷ [])) (refusal Rule.field)
     ∷ entry (reading (0x3F000041 ∷ [])) (one (Op.Control ControlOp.Break) 1 false 0 0 0 0 1)
     ∷ entry (reading (0x3F000070 ∷ [])) (refusal Rule.not-carried)
-    -- T7 to T11; T10 by page 02, which makes MULHI signed
+    -- T7 to T11; T10 and T11 by page 02, which makes MULHI signed and a sum that reaches 2^32 a fault
     ∷ entry (operation TwoOp.Div 0xFFFFFFF9 2) (value 0xFFFFFFFD)
     ∷ entry (operation TwoOp.Rem 0xFFFFFFF9 2) (value 0xFFFFFFFF)
     ∷ entry (operation TwoOp.Div 0x80000000 0xFFFFFFFF) (value 0x80000000)
     ∷ entry (operation TwoOp.Rem 0x80000000 0xFFFFFFFF) (value 0)
     ∷ entry (operation TwoOp.Sar 0x80000000 33) (value 0xC0000000)
     ∷ entry (operation TwoOp.Mulhi 0xFFFFFFFF 0xFFFFFFFF) (value 0)
-    ∷ entry (address 0xFFFFFFFC 8) (value 4)
+    ∷ entry (launching 8 2 2 t11) (faulted 1 (bytesOfAll (7 ∷ 2 ∷ 1 ∷ 6 ∷ 3 ∷ 3 ∷ 0 ∷ 0 ∷ [])))
     -- T12 to T14
     ∷ entry (launching 8 4 2 t12) (ended 9 (7 ∷ 8 ∷ 2 ∷ 2 ∷ []) 12)
     ∷ entry (launching 8 2 2 t13) (faulted 1 (bytesOfAll (7 ∷ 1 ∷ 1 ∷ 4 ∷ 1 ∷ 3 ∷ 0 ∷ 0 ∷ [])))

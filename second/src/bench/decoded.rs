@@ -99,7 +99,7 @@ impl Wave<'_> {
     fn control(&self, operation: Operation, t: Lanes, state: &mut State) -> Result<(), Faults> {
         let waiting = self.launched & !state.halted & !state.active;
         if operation == Operation::Barrier && t != 0 && waiting != 0 {
-            return Err([0, 0, 0, 0, t]);
+            return Err([0, 0, 0, 0, t, 0]);
         }
         control::carry_out(operation, t, state);
         Ok(())
@@ -141,7 +141,7 @@ impl Wave<'_> {
         if arithmetic::divides(i.operation) {
             let zero = self.lanes_where(t, |own| own[b] == 0);
             if zero != 0 {
-                return Err([0, 0, 0, zero, 0]);
+                return Err([0, 0, 0, zero, 0, 0]);
             }
         }
         by_operation!(
@@ -186,8 +186,8 @@ impl Wave<'_> {
         let (base, each) = (i.rs1 as usize, self.each);
         let mut wrong = false;
         Self::each(self.launched, t, |lane| {
-            let address = self.registers[lane * each + base].wrapping_add(i.number);
-            wrong |= address % 4 != 0 || address as usize / 4 >= words;
+            let (address, over) = self.registers[lane * each + base].overflowing_add(i.number);
+            wrong |= over || address % 4 != 0 || address as usize / 4 >= words;
         });
         match wrong {
             false => Ok(()),
@@ -198,11 +198,12 @@ impl Wave<'_> {
     /// The lanes of each fault kind of addresses, some of which fault.
     #[cold]
     fn kinds(&self, i: &Instruction, t: Lanes, words: usize, past: usize) -> Faults {
-        let address = |own: &[u32]| own[i.rs1 as usize].wrapping_add(i.number);
-        let odd = self.lanes_where(t, |own| address(own) % 4 != 0);
-        let far = self.lanes_where(t, |own| address(own) as usize / 4 >= words);
-        let mut faults = [odd, 0, 0, 0, 0];
-        faults[past - 1] = far & !odd;
+        let sum = |own: &[u32]| own[i.rs1 as usize].overflowing_add(i.number);
+        let over = self.lanes_where(t, |own| sum(own).1);
+        let odd = self.lanes_where(t & !over, |own| sum(own).0 % 4 != 0);
+        let rest = t & !over & !odd;
+        let mut faults = [odd, 0, 0, 0, 0, over];
+        faults[past - 1] = self.lanes_where(rest, |own| sum(own).0 as usize / 4 >= words);
         faults
     }
 

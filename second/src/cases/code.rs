@@ -8,6 +8,8 @@ use crate::words::{self, Instruction};
 
 /// The operations that leave a round of a loop.
 const JUMPS: [Operation; 2] = [Operation::Break, Operation::Continue];
+/// Offsets of loads and stores that mostly find their word.
+const OFFSETS: [u32; 7] = [0, 0, 0, 0, 0, 4, 8];
 
 /// Writes random code for so many registers of a lane and words of each memory.
 pub struct Coder<'a> {
@@ -45,7 +47,7 @@ pub fn instruction(random: &mut Random, operation: Operation, registers: u32) ->
         Form::Comparison => i.rd = 1 + random.below(3) as u32,
         Form::Special => i.rs1 = random.below(3) as u32,
         Form::Immediate => (i.rs1, i.number) = (0, random.word()),
-        Form::Memory => i.number = random.pick(&[0, 0, 0, 0, 0, 4, 8, 0xFFFFFFFC]),
+        Form::Memory => i.number = random.word(),
         Form::Atomic | Form::CompareAndSwap => i.scope = random.below(4) as u32,
         _ => (),
     }
@@ -194,20 +196,30 @@ impl<'a> Coder<'a> {
         self.random.pick(&found)
     }
 
-    /// An access to memory, mostly after its base got the address of some word.
+    /// An access to memory, mostly after its base got the address of some word. Where it didn't, a load or store
+    /// has any offset.
     fn access(&mut self) {
         let operation = match self.random.below(5) {
             0..=2 => self.any_of(|form| matches!(form, Form::Atomic | Form::CompareAndSwap)),
             _ => self.any_of(|form| form == Form::Memory),
         };
-        let instruction = instruction(self.random, operation, self.registers);
+        let mut instruction = instruction(self.random, operation, self.registers);
         if self.random.chance(93) {
+            self.near(&mut instruction);
             self.address(&instruction);
         }
         self.emit(&instruction);
     }
 
-    /// Gives the base register of an access one word's address for all lanes, or a word's for each lane.
+    /// Gives a load or store a small offset.
+    fn near(&mut self, access: &mut Instruction) {
+        if access.operation.form() == Form::Memory {
+            access.number = self.random.pick(&OFFSETS);
+        }
+    }
+
+    /// Gives the base register of an access one word's address for all lanes, or a word's for each lane. Where the
+    /// one word's address is below the offset, the sum reaches 2^32.
     fn address(&mut self, access: &Instruction) {
         let words = match access.operation {
             Operation::LocalLoad | Operation::LocalStore => self.local,
@@ -254,8 +266,9 @@ impl<'a> Coder<'a> {
             Form::Comparison => instruction.rd = 2 + self.random.below(2) as u32,
             Form::TwoSources if arithmetic::divides(operation) => self.divisor(&instruction),
             Form::Memory | Form::Atomic | Form::CompareAndSwap => {
+                self.near(&mut instruction);
                 let address = 4 * self.random.below(8) as u32;
-                self.immediate(instruction.rs1, address.wrapping_sub(instruction.number));
+                self.immediate(instruction.rs1, address.saturating_sub(instruction.number));
             }
             _ => (),
         }

@@ -4,8 +4,10 @@ use super::code::{Coder, words_of};
 use super::make::{LARGEST_TEXT_ROOM, capture, numbered, settings};
 use super::random::Random;
 use super::{Case, files, states};
+use crate::key::LONGEST_BODY;
 use crate::listing::LONGEST_FILE;
 use crate::operations::Operation;
+use crate::run::Outcome;
 use crate::state::State;
 use crate::words::Instruction;
 
@@ -62,7 +64,7 @@ pub fn longest(random: &mut Random) -> Case {
     capture.code.extend(words_of(&load));
     Case::Run {
         capture,
-        key_room: 808,
+        key_room: LONGEST_BODY,
     }
 }
 
@@ -79,7 +81,7 @@ pub fn nested(random: &mut Random, depth: usize, resumed: bool) -> Case {
     }
     Case::Run {
         capture,
-        key_room: 808,
+        key_room: LONGEST_BODY,
     }
 }
 
@@ -137,7 +139,66 @@ pub fn barrier(random: &mut Random) -> Case {
     capture.code = code.iter().flat_map(words_of).collect();
     Case::Run {
         capture,
-        key_room: 808,
+        key_room: LONGEST_BODY,
+    }
+}
+
+/// A load or store that faults by these kinds: a lane by each, the others by any of them. The sums of base and
+/// offset are the four numbers below 2^32, and the four from it on.
+pub fn addresses(random: &mut Random, kinds: &[u32]) -> Case {
+    let mut settings = settings(random);
+    settings.lanes = settings.lanes.max(kinds.len() as u32);
+    settings.budget = settings.budget.max(1);
+    let mut capture = capture(random, settings);
+    let access = access_by(random, kinds, settings.registers);
+    let lanes = settings.lanes as usize;
+    let turn = random.below(lanes);
+    for index in 0..lanes {
+        let kind = match kinds.get(index) {
+            Some(kind) => *kind,
+            None => random.pick(kinds),
+        };
+        let above = match kind {
+            6 => random.below(4) as u32,
+            1 => (1 + random.below(3) as u32).wrapping_neg(),
+            _ => 4u32.wrapping_neg(),
+        };
+        let at = (index + turn) % lanes * settings.registers as usize + access.rs1 as usize;
+        capture.registers[at] = access.number.wrapping_neg().wrapping_add(above);
+    }
+    capture.code = words_of(&access);
+    Case::Run {
+        capture,
+        key_room: LONGEST_BODY,
+    }
+}
+
+/// A load or store of a memory that these kinds are of, with an offset from 4 on.
+fn access_by(random: &mut Random, kinds: &[u32], registers: u32) -> Instruction {
+    let local = [Operation::LocalLoad, Operation::LocalStore];
+    let device = [Operation::Load, Operation::Store];
+    let from = match (kinds.contains(&3), kinds.contains(&2)) {
+        (true, _) => local,
+        (_, true) => device,
+        _ => random.pick(&[local, device]),
+    };
+    let far = random.bits().clamp(4, 0xFFFFFFFC);
+    Instruction {
+        rd: random.below(registers as usize) as u32,
+        rs1: random.below(registers as usize) as u32,
+        number: random.pick(&[4, 8, 0x80000000, 0xFFFFFFFC, far]),
+        ..Instruction::plain(random.pick(&from))
+    }
+}
+
+/// The key of a fault of three kinds, two of which have a lane in common.
+pub fn overlap(random: &mut Random, two: [usize; 2]) -> Case {
+    let kinds = random.pick(&[[1, 2, 6], [1, 3, 6]]);
+    Case::Key {
+        kernel: random.word(),
+        outcome: Outcome::Fault(files::overlapping(random, &kinds, two)),
+        state: files::state(random, 1),
+        room: LONGEST_BODY,
     }
 }
 
@@ -156,7 +217,7 @@ pub fn jumps(random: &mut Random) -> Case {
     }
     Case::Run {
         capture,
-        key_room: 808,
+        key_room: LONGEST_BODY,
     }
 }
 

@@ -3,38 +3,61 @@
 use super::random::Random;
 use crate::bytes;
 use crate::dayfile;
+use crate::key;
 use crate::refusal::Refusal;
 use crate::run::Outcome;
 use crate::state::{Block, State};
+use crate::step::Faults;
 
 /// The lanes of the kinds of a fault that has a body: one of the listed lists of kinds.
-pub fn faults(random: &mut Random) -> [u32; 5] {
-    let mut faults = [0; 5];
-    let first = random.bits() | 1;
-    match random.below(7) {
-        kind @ 0..=4 => faults[kind] = first,
-        other => {
-            faults[0] = first;
-            faults[other - 4] = !first & random.bits() | 0x80000000;
-            faults[0] &= 0x7FFFFFFF;
+pub fn faults(random: &mut Random) -> Faults {
+    let kinds = random.pick(&key::KINDS);
+    apart(random, kinds)
+}
+
+/// Lanes for each of these kinds, no lane in two.
+fn apart(random: &mut Random, kinds: &[u32]) -> Faults {
+    let mut faults = Faults::default();
+    for lane in 0..32 {
+        let index = match lane < kinds.len() {
+            true => lane,
+            false => random.below(kinds.len() + 1),
+        };
+        if let Some(kind) = kinds.get(index) {
+            faults[*kind as usize - 1] |= 1 << lane;
         }
     }
+    let turn = random.below(32) as u32;
+    faults.map(|lanes| lanes.rotate_left(turn))
+}
+
+/// Lanes for each of these kinds, with one lane in both of the two kinds that are said by their index.
+pub fn overlapping(random: &mut Random, kinds: &[u32], two: [usize; 2]) -> Faults {
+    let mut faults = apart(random, kinds);
+    let [one, other] = two.map(|index| kinds[index] as usize - 1);
+    faults[one] |= 1 << faults[other].trailing_zeros();
     faults
+}
+
+/// The lanes of a fault that may have no body: any kinds with lanes apart, or any lanes.
+fn unlisted(random: &mut Random) -> Faults {
+    if random.chance(50) {
+        let kinds: Vec<u32> = (1..=6).filter(|_| random.chance(40)).collect();
+        return apart(random, &kinds);
+    }
+    std::array::from_fn(|_| if random.chance(50) { random.bits() } else { 0 })
 }
 
 /// What a run may have answered; mostly a fault.
 pub fn outcome(random: &mut Random) -> Outcome {
-    match random.below(12) {
+    match random.below(13) {
         0 => Outcome::Ended,
         1 => Outcome::OutOfBudget,
         2 => Outcome::Refused(Refusal {
             number: 1 + random.below(11) as u32,
             place: random.below(9) as u32,
         }),
-        3 => {
-            let some = |random: &mut Random| if random.chance(50) { random.bits() } else { 0 };
-            Outcome::Fault(std::array::from_fn(|_| some(random)))
-        }
+        3 | 4 => Outcome::Fault(unlisted(random)),
         _ => Outcome::Fault(faults(random)),
     }
 }
@@ -102,7 +125,18 @@ pub fn damage_state(random: &mut Random, state: &mut State) {
 /// A body of the layout, as its numbers.
 fn body(random: &mut Random, depth: usize) -> Vec<u8> {
     let kernel = random.word();
-    crate::key::body(kernel, &faults(random), &state(random, depth))
+    key::body(kernel, &faults(random), &state(random, depth))
+}
+
+/// A body with any kinds, up to four of them in any order, and mostly of no layout.
+fn unlisted_body(random: &mut Random) -> Vec<u8> {
+    let count = random.below(5);
+    let mut numbers = vec![random.word(), random.below(65_536) as u32, count as u32];
+    for _ in 0..count {
+        numbers.extend([random.below(8) as u32, 1 << random.below(4)]);
+    }
+    numbers.extend([random.word(), random.word(), 0]);
+    bytes::from_numbers(&numbers)
 }
 
 /// Bodies one after another, some of them equal.
@@ -151,10 +185,11 @@ fn change_number(random: &mut Random, bytes: &mut [u8], among: usize) {
 
 /// Damages bodies that lie one after another.
 pub fn damage_bodies(random: &mut Random, bodies: &mut Vec<u8>) {
-    match random.below(4) {
+    match random.below(6) {
         0 => bodies.truncate(random.below(bodies.len() + 1)),
         1 => bodies.push(random.bits() as u8),
         2 => bodies.extend(random.bits().to_le_bytes()),
+        3 | 4 => bodies.extend(unlisted_body(random)),
         _ => change_number(random, bodies, usize::MAX),
     }
 }

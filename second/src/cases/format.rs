@@ -31,13 +31,13 @@ pub fn instruction_numbers(i: &Instruction) -> [u32; 9] {
     ]
 }
 
-/// An outcome's eight numbers.
-pub fn outcome_numbers(outcome: &Outcome) -> [u32; 8] {
+/// An outcome's nine numbers.
+pub fn outcome_numbers(outcome: &Outcome) -> [u32; 9] {
     match *outcome {
-        Outcome::Ended => [0; 8],
-        Outcome::OutOfBudget => [1, 0, 0, 0, 0, 0, 0, 0],
-        Outcome::Fault([k1, k2, k3, k4, k5]) => [2, 0, 0, k1, k2, k3, k4, k5],
-        Outcome::Refused(refusal) => [3, refusal.number, refusal.place, 0, 0, 0, 0, 0],
+        Outcome::Ended => [0; 9],
+        Outcome::OutOfBudget => [1, 0, 0, 0, 0, 0, 0, 0, 0],
+        Outcome::Fault([k1, k2, k3, k4, k5, k6]) => [2, 0, 0, k1, k2, k3, k4, k5, k6],
+        Outcome::Refused(refusal) => [3, refusal.number, refusal.place, 0, 0, 0, 0, 0, 0],
     }
 }
 

@@ -7,6 +7,7 @@ use super::{damage, directed, files, states};
 use crate::assembly;
 use crate::bytes;
 use crate::capture::Capture;
+use crate::key::{self, LONGEST_BODY};
 use crate::operations::{Form, Operation};
 use crate::run::Settings;
 use crate::words::Instruction;
@@ -30,11 +31,26 @@ pub fn case(seed: u64, number: u64) -> Case {
         9 => directed::full_listing(random),
         10 => directed::too_long_file(),
         11 if number % 5000 == 4012 => directed::longest(random),
-        index @ 12.. => match Operation::ALL.get(index as usize - 12) {
-            Some(operation) => directed::text(random, *operation),
-            None => any(random),
-        },
+        index @ 12.. => one_of_each(random, index as usize - 12),
         _ => any(random),
+    }
+}
+
+/// A fault for each list of an address's kinds, a key for each two of three sets that overlap, a text for each
+/// operation, then any case.
+fn one_of_each(random: &mut Random, index: usize) -> Case {
+    let of_addresses = |kinds: &&[u32]| !kinds.contains(&4) && !kinds.contains(&5);
+    let lists: Vec<&[u32]> = key::KINDS.into_iter().filter(of_addresses).collect();
+    if let Some(kinds) = lists.get(index) {
+        return directed::addresses(random, kinds);
+    }
+    let (index, pairs) = (index - lists.len(), [[0, 1], [0, 2], [1, 2]]);
+    if let Some(two) = pairs.get(index) {
+        return directed::overlap(random, *two);
+    }
+    match Operation::ALL.get(index - pairs.len()) {
+        Some(operation) => directed::text(random, *operation),
+        None => any(random),
     }
 }
 
@@ -166,7 +182,8 @@ pub fn capture(random: &mut Random, settings: Settings) -> Capture {
 
 /// Room for the key: mostly enough.
 fn key_room(random: &mut Random) -> usize {
-    random.pick(&[0, 31, 32, 56, 80, 120, 200, 808, 808, 810])
+    let most = LONGEST_BODY;
+    random.pick(&[0, 31, 32, 56, 80, 120, 200, most, most, most + 2])
 }
 
 /// A run, launched or resumed, whole or damaged.
@@ -220,12 +237,13 @@ fn key(random: &mut Random) -> Case {
     if random.chance(30) {
         files::damage_state(random, &mut state);
     }
-    let length = 32 + 24 * depth;
+    let kinds = random.pick(&[1, 1, 2, 3]);
+    let length = 24 + 8 * kinds + 24 * depth;
     Case::Key {
         kernel: random.word(),
         outcome: files::outcome(random),
         state,
-        room: random.pick(&[0, length - 1, length, length + 7, length + 8, length + 11]),
+        room: random.pick(&[0, length - 1, length, length + 3]),
     }
 }
 

@@ -27,8 +27,8 @@
 //! - INSTRUCTION is nine numbers: operation (opcode × 16 + modifier), RD, RS1, RS2, RS3, number, scope,
 //!   predicate, negate. Unused fields are 0. Negate is 0 or 1, and the operation is one that the desk
 //!   carries, in cases too.
-//! - OUTCOME is eight numbers: 0 ended, 1 out of budget, 2 fault or 3 refused; refusal, place; the lanes
-//!   of fault kinds 1 to 5, 0 where there are none.
+//! - OUTCOME is nine numbers: 0 ended, 1 out of budget, 2 fault or 3 refused; refusal, place; the lanes
+//!   of fault kinds 1 to 6, 0 where there are none.
 //! - STATE is 7 + 6 × depth numbers: place, active, halted, p1, p2, p3, depth, then part, opener, entered,
 //!   aside, again, left for each block, outermost first. In an answer at most the first 32 blocks follow.
 //! - The text of an instruction tests 12, then 13, as writing one does.

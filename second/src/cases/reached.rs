@@ -8,7 +8,7 @@ use crate::operations::Operation;
 use crate::refusal::Refusal;
 use crate::run::{Answer, Outcome};
 use crate::state::{Misfit, State};
-use crate::step;
+use crate::step::{self, Faults};
 use crate::words::{self, Wrong};
 
 /// The numbers 0 to 16 as labels; 0 stands for what isn't refused.
@@ -31,6 +31,11 @@ const REFUSALS: [(&str, &[usize]); 11] = [
     ("an instruction's text", &[0, 12, 13]),
 ];
 
+/// The lists of kinds that a fault has.
+const FAULT_KINDS: [&str; 13] = [
+    "1", "2", "3", "4", "5", "1 2", "1 3", "6", "1 6", "2 6", "3 6", "1 2 6", "1 3 6",
+];
+
 /// The groups that have labels of their own.
 const LABELS: [(&str, &[&str]); 9] = [
     ("a launch answers", &["ended", "out of budget", "fault"]),
@@ -38,7 +43,7 @@ const LABELS: [(&str, &[&str]); 9] = [
         "a resumed run answers",
         &["ended", "out of budget", "fault"],
     ),
-    ("fault kinds", &["1", "2", "3", "4", "5", "1 2", "1 3"]),
+    ("fault kinds", &FAULT_KINDS),
     ("width", &["8", "16", "32"]),
     (
         "refusal 6",
@@ -226,17 +231,11 @@ impl Reached {
     }
 
     /// Counts the list of a fault's kinds.
-    fn kinds(&mut self, faults: [u32; 5]) {
-        let label = match faults.map(|lanes| lanes != 0) {
-            [true, true, ..] => "1 2",
-            [true, _, true, ..] => "1 3",
-            [true, ..] => "1",
-            [_, true, ..] => "2",
-            [_, _, true, ..] => "3",
-            [_, _, _, true, _] => "4",
-            _ => "5",
-        };
-        self.count("fault kinds", label);
+    fn kinds(&mut self, faults: Faults) {
+        let found = (1..).zip(faults).filter(|(_, lanes)| *lanes != 0);
+        let kinds: Vec<String> = found.map(|(kind, _): (u32, _)| kind.to_string()).collect();
+        let label = FAULT_KINDS.iter().find(|label| **label == kinds.join(" "));
+        self.count("fault kinds", label.expect("kinds that come together"));
     }
 
     /// Counts the page's edges of a run that wasn't refused.

@@ -10,7 +10,7 @@ use Rattle.day_cases.proofs.answer_list.Tie as tie
 slice-aggregate-write-all : tie.Need-slice-aggregate-write-all
 slice-aggregate-write-all c =
     let t = c .before .before .before .list .last .1 .0 in
-    let l : length t ≡ 160000 = c .before .before .before .list .kept .1 .0 in
+    let l : length t ≡ 176000 = c .before .before .before .list .kept .1 .0 in
     sym (length-take-le _ t (omega arith))
 
 pub answer-list-spec : {M : Type 1} → statement M

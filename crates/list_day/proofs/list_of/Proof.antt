@@ -10,7 +10,7 @@ use Rattle.list_day.proofs.list_of.Tie as tie
 slice-aggregate-write-whole-2 : tie.Need-slice-aggregate-write-whole-2
 slice-aggregate-write-whole-2 c =
     let t = c .before .before .before .before .list .last .1 .0 in
-    let l : length t ≡ 160000 = c .before .before .before .before .list .kept .1 .0 in
+    let l : length t ≡ 176000 = c .before .before .before .before .list .kept .1 .0 in
     sym (length-take-le _ t (omega arith))
 
 pub list-of-spec : {M : Type 1} → statement M

@@ -7,6 +7,7 @@ pub mod refusals;
 pub mod results;
 pub mod shortcuts;
 pub mod stopped;
+pub mod top;
 
 use super::Case;
 use crate::capture::Capture;
@@ -34,6 +35,7 @@ pub fn all() -> Vec<Named> {
         page::cases(),
         results::cases(),
         faults::cases(),
+        top::cases(),
         shortcuts::cases(),
         refusals::cases(),
         stopped::cases(),
@@ -157,7 +159,7 @@ impl Named {
         stopped
     }
 
-    /// The same, with the lanes of fault kinds 1 to 5, and the body's numbers.
+    /// The same, with the lanes of fault kinds 1 to 6, and the body's numbers.
     fn faults(self, steps: u32, place: u32, lanes: Faults, body: &[u32]) -> Named {
         let mut faulted = self.ends(steps, place);
         faulted.answer.outcome = Outcome::Fault(lanes);

@@ -47,7 +47,7 @@ fn marked() -> Vec<Named> {
             .register_after(0, &[0, 1, 2, 3])
             .register_after(1, &[7, 8, 2, 2]),
         launch("T13: a division by 0", 8, 2, 2, t13)
-            .faults(1, 1, [0, 0, 0, 1, 0], &[7, 1, 1, 4, 1, 3, 0, 0])
+            .faults(1, 1, [0, 0, 0, 1, 0, 0], &[7, 1, 1, 4, 1, 3, 0, 0])
             .register_after(0, &[0, 1]),
         launch(
             "T14: a division by 0 in a loop that a lane broke",
@@ -59,7 +59,7 @@ fn marked() -> Vec<Named> {
         .faults(
             5,
             7,
-            [0, 0, 0, 1, 0],
+            [0, 0, 0, 1, 0, 0],
             &[7, 7, 1, 4, 1, 5, 0, 1, 3, 5, 7, 2, 0, 0],
         )
         .active(0b101)
@@ -88,6 +88,10 @@ fn depths() -> Vec<Named> {
     let inside = nested(32, "IF on not p1", "LOCAL_STORE [r0 + 0], r0", "ENDIF");
     let entered: Vec<[u32; 6]> = (0..32).map(|opener| [1, opener, 3, 0, 0, 0]).collect();
     let body = [&[7, 32, 2, 1, 1, 3, 2, 3, 0, 32], entered.as_flattened()].concat();
+    let in_loops = nested(32, "LOOP", "LOCAL_STORE [r0 + 4], r0", "ENDLOOP");
+    let around: Vec<[u32; 6]> = (0..32).map(|opener| [3, opener, 7, 0, 0, 0]).collect();
+    let numbers = [7, 32, 3, 1, 1, 3, 2, 6, 4, 7, 0, 32];
+    let longest = [&numbers[..], around.as_flattened()].concat();
     let loops = nested(33, "LOOP", "BREAK", "ENDLOOP");
     vec![
         launch("depth 32", 8, 8, 1, &ifs).ends(65, 65),
@@ -99,16 +103,20 @@ fn depths() -> Vec<Named> {
         launch("depth 32, gone on from inside", 8, 8, 1, &ifs)
             .resumed(state(32, 0, 0, &waiting))
             .ends(33, 65),
+        launch("depth 32, a fault of two kinds inside", 8, 2, 1, &inside)
+            .lent(0, &[1, 0])
+            .faults(32, 32, [1, 0, 2, 0, 0, 0], &body)
+            .blocks(&entered),
         launch(
-            "depth 32, a fault of two kinds inside: the longest key",
+            "depth 32, a fault of three kinds inside: the longest key",
             8,
-            2,
+            3,
             1,
-            &inside,
+            &in_loops,
         )
-        .lent(0, &[1, 0])
-        .faults(32, 32, [1, 0, 2, 0, 0], &body)
-        .blocks(&entered),
+        .lent(0, &[1, 0, 0xFFFFFFFC])
+        .faults(32, 32, [1, 0, 2, 0, 0, 4], &longest)
+        .blocks(&around),
         launch("depth 33", 8, 8, 1, &nested(33, "IF on p1", "NOP", "ENDIF")).refused(9, 32),
         launch("depth 33 of loops", 8, 8, 1, &loops).refused(9, 32),
     ]
@@ -177,7 +185,7 @@ fn no_memory() -> Vec<Named> {
         launch("no memory: a load", 8, 2, 1, "LOAD r0, [r0 + 0]").faults(
             0,
             0,
-            [0, 3, 0, 0, 0],
+            [0, 3, 0, 0, 0, 0],
             &[7, 0, 1, 2, 3, 3, 0, 0],
         ),
         launch(
@@ -187,7 +195,7 @@ fn no_memory() -> Vec<Named> {
             1,
             "LOCAL_LOAD r0, [r0 + 0]",
         )
-        .faults(0, 0, [0, 0, 3, 0, 0], &[7, 0, 1, 3, 3, 3, 0, 0]),
+        .faults(0, 0, [0, 0, 3, 0, 0, 0], &[7, 0, 1, 3, 3, 3, 0, 0]),
         launch("no memory, and no executing lane", 8, 2, 1, guarded).ends(4, 8),
     ]
 }

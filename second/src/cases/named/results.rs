@@ -56,7 +56,7 @@ fn high_halves() -> Vec<Named> {
             .register_after(2, &pairs.map(|(_, _, high)| high)),
         launch("a division by what MULHI gave", 8, 2, 2, divided)
             .lent(0, &[0xFFFF_FFFF, 0x8000_0000])
-            .faults(1, 2, [0, 0, 0, 1, 0], &[7, 2, 1, 4, 1, 3, 0, 0])
+            .faults(1, 2, [0, 0, 0, 1, 0, 0], &[7, 2, 1, 4, 1, 3, 0, 0])
             .register_after(1, &[0, 0x4000_0000]),
     ]
 }

@@ -1,6 +1,7 @@
 -- `faulting::addresses::address_faults` meets its contract: where every address is in reach no lane faults, and else the tests of the lanes
 -- tell the faults.
 use mathlib.Core.Path.{_≡_, sym, _∙_}
+use mathlib.Core.Bool.{Bool}
 use Prim.Native.Nat.{ℕ, _≤_, _<_}
 use native.Mathlib.Omega.{arith}
 use lib.ListN.{length, getD}
@@ -9,6 +10,8 @@ use mir.Val.{Fits}
 use borrow.Author.Needs.{needs}
 use Rattle.lanes.specs.Sets.{widest}
 use Rattle.arith.specs.Arith.{wordOf}
+use Rattle.faulting.specs.Causes.{isOdd, isPast}
+use Rattle.faulting.specs.Told.{hasWrapped}
 use Rattle.faulting.proofs.FaultKinds.{address-kinds, narrow-kinds}
 use Rattle.faulting.proofs.Reaching.{all-in-reach, past-same}
 use Rattle.faulting.proofs.addresses.address_faults.Statement.{statement}
@@ -29,7 +32,7 @@ returns c =
     let z = n .before in
     let a = z .args in
     c .no-faults .ensures
-    ∙ all-in-reach (a .space) (n .narrowed .result) (a .t) (a .words) (m .nameable .result) (a .at) (m .nameable .ensures) (word-low z) (wide n)
+    ∙ all-in-reach (a .space) (n .narrowed .result) (a .t) (a .words) (m .nameable .result) (a .offset) (a .at) (m .nameable .ensures) (word-low z) (wide n)
     (sym (c .before .before .all-reach .ensures) ∙ c .before .if1 .taken)
     ∙ narrow-kinds (a .width) (a .t) _ (n .narrowed .result) (n .narrowed .ensures) (z .fits .t .fits)
 
@@ -40,9 +43,11 @@ returns-2 c =
     let n = m .before in
     let z = n .before in
     let a = z .args in
+    let over : ℕ → Bool = λ i. hasWrapped (a .offset) (getD (a .at) i 0) in
+    let odd : ℕ → Bool = λ i. isOdd (getD (a .at) i 0) in
     c .of-addresses .ensures
-    ∙ address-kinds (n .narrowed .result) (a .t) (a .words) (λ i. getD (a .at) i 0) (a .space) _ _ (h .reach .ensures .0)
-    (h .reach .ensures .1 ∙ past-same (n .narrowed .result) (a .t) (a .words) _ (a .at) (m .nameable .ensures) (word-low z))
+    ∙ address-kinds (n .narrowed .result) (a .t) (a .space) over odd (λ i. isPast (a .words) (getD (a .at) i 0)) _ _ _ (h .reach .ensures .0)
+    (h .reach .ensures .1 .0) (h .reach .ensures .1 .1 ∙ past-same (n .narrowed .result) (a .t) (a .words) _ (a .at) over odd (m .nameable .ensures) (word-low z))
     ∙ narrow-kinds (a .width) (a .t) _ (n .narrowed .result) (n .narrowed .ensures) (z .fits .t .fits)
 
 pub address-faults-spec : {M : Type 1} → statement M

@@ -1,5 +1,5 @@
 -- `faulting::addresses::all_reach` meets its contract: at turn k the addresses from k on still decide.
-use mathlib.Core.Path.{_≡_, refl, sym, ap, _∙_}
+use mathlib.Core.Path.{_≡_, refl, sym, ap, ap₂, _∙_}
 use mathlib.Core.Bool.{_&&_}
 use Prim.Native.Nat.{ℕ, _-_, _%_, _<_}
 use native.Mathlib.Omega.{arith}
@@ -12,20 +12,23 @@ use mir.Val.{Fits}
 use borrow.Author.Needs.{needs}
 use borrow.Author.Tests.{le-leb}
 use Rattle.ground.specs.Tests.{allOf}
-use Rattle.faulting.specs.Causes.{inReach}
+use Rattle.faulting.specs.Told.{inReach}
 use Rattle.faulting.proofs.Reaching.{asked-more, asked-all, reach-more}
 use Rattle.faulting.proofs.addresses.all_reach.Statement.{statement}
 use Rattle.faulting.proofs.addresses.all_reach.Tie as tie
 
 abbrev Inv-loop : tie.InvT-loop
-Inv-loop words width at end bits₀ top₀ k₀ bits top k =
-    allOf (inReach words) (take width at) ≡ ((eqb (bits % 4) 0 && leb top words) && allOf (inReach words) (drop k (take width at)))
+Inv-loop offset words width at end bits₀ top₀ lowest₀ k₀ bits top lowest k =
+    allOf (inReach offset words) (take width at)
+    ≡ (((eqb (bits % 4) 0 && leb top words) && leb offset lowest) && allOf (inReach offset words) (drop k (take width at)))
 
 abbrev μ-loop : tie.MeasureT-loop
-μ-loop words width at end bits₀ top₀ k₀ bits top k = end - k
+μ-loop offset words width at end bits₀ top₀ lowest₀ k₀ bits top lowest k = end - k
 
 loop-holds : tie.Need-loop-holds Inv-loop μ-loop
-loop-holds c = rw (le-leb 0 (c .args .words) (omega arith)) refl
+loop-holds c =
+    let f : Fits w32 (c .args .offset) = search needs in
+    rw (le-leb 0 (c .args .words) (omega arith), le-leb (c .args .offset) 0xffffffff (omega (arith, f .fits))) refl
 
 -- as many addresses as the wave has lanes
 wide : (z : tie.Start Inv-loop μ-loop) → length (take (z .args .width) (z .args .t1)) ≡ z .args .width
@@ -39,24 +42,28 @@ next-word c =
 
 loop-again : tie.Need-loop-again Inv-loop μ-loop
 loop-again c =
-    let h = c .before .before .loop in
-    let z = c .before .before .before in
+    let top = c .before in
+    let h = top .before .before .loop in
+    let z = top .before .before .before in
     let a = z .args in
-    let b : h .k < a .width = omega (arith, c .before .loop-test .taken) in
+    let b : h .k < a .width = omega (arith, top .before .loop-test .taken) in
     let address = getD (a .t1) (h .k) 0 in
-    asked-more (inReach (a .words)) (take (a .width) (a .t1)) (h .k) (eqb (h .bits % 4) 0 && leb (h .top) (a .words)) _ (omega (arith, wide z)) (h .inv)
-    (ap (λ (n : ℕ). eqb (bitOr (h .bits) address % 4) 0 && leb n (a .words)) (c .larger .ensures)
-    ∙ reach-more (h .bits) (h .top) address (a .words)
-    ∙ ap (λ (x : ℕ). (eqb (h .bits % 4) 0 && leb (h .top) (a .words)) && inReach (a .words) x) (sym (getD-take (a .width) (a .t1) (h .k) 0 b)))
+    let reach = inReach (a .offset) (a .words) in
+    let tested = (eqb (h .bits % 4) 0 && leb (h .top) (a .words)) && leb (a .offset) (h .lowest) in
+    asked-more reach (take (a .width) (a .t1)) (h .k) tested _ (omega (arith, wide z)) (h .inv)
+    (ap₂ (λ (n m : ℕ). (eqb (bitOr (h .bits) address % 4) 0 && leb n (a .words)) && leb (a .offset) m) (top .larger .ensures) (c .smaller .ensures)
+    ∙ reach-more (h .bits) (h .top) (h .lowest) address (a .words) (a .offset)
+    ∙ ap (λ (x : ℕ). tested && reach x) (sym (getD-take (a .width) (a .t1) (h .k) 0 b)))
 
 returns : tie.Need-returns Inv-loop μ-loop
 returns c =
     let h = c .before .loop in
     let z = c .before .before in
     let a = z .args in
-    asked-all (inReach (a .words)) (take (a .width) (a .t1)) (h .k) (eqb (h .bits % 4) 0 && leb (h .top) (a .words)) (omega (arith, wide z, c .loop-test .left)) (h .inv)
+    let tested = (eqb (h .bits % 4) 0 && leb (h .top) (a .words)) && leb (a .offset) (h .lowest) in
+    asked-all (inReach (a .offset) (a .words)) (take (a .width) (a .t1)) (h .k) tested (omega (arith, wide z, c .loop-test .left)) (h .inv)
 
 pub all-reach-spec : {M : Type 1} → statement M
 all-reach-spec = tie.close (tie.spec
-    Inv-loop μ-loop loop-holds (λ c. omega arith) (λ c. omega arith) next-word (λ c κs. search needs) (λ c. omega arith) (λ c. omega arith)
-    loop-again returns)
+    Inv-loop μ-loop loop-holds (λ c. omega arith) (λ c. omega arith) next-word (λ c κs. search needs) (λ c κs. search needs) (λ c. omega arith)
+    (λ c. omega arith) loop-again returns)
