@@ -2,7 +2,7 @@
 use mathlib.Core.Path.{_≡_, refl, sym, ap, ap₂, _∙_}
 use mathlib.Core.Bool.{Bool, true, false, cond}
 use mathlib.Core.List.{List}
-use Prim.Native.Nat.{ℕ, _≤_, _<_}
+use Prim.Native.Nat.{ℕ, _^_, _≤_, _<_}
 use lib.ListN.{length, getD}
 use Rattle.lanes.specs.Sets.{widest}
 use Rattle.instructions.specs.declared.instr.TwoOp.{TwoOp}
@@ -12,11 +12,10 @@ use Rattle.instructions.specs.declared.instr.ControlOp.{ControlOp}
 use Rattle.instructions.specs.declared.instr.Space.{Space}
 use Rattle.instructions.specs.declared.instr.Op.{Op}
 use Rattle.instructions.specs.declared.instr.Instr.{Instr}
-use Rattle.arith.specs.Arith.{addressOf, wordOf}
+use Rattle.arith.specs.Arith.{wordOf}
 use Rattle.faulting.specs.declared.faults.Faults.{Faults}
 use Rattle.faulting.specs.Kinds.{noFaults, clear}
-use Rattle.faulting.specs.Causes.{addressFault, kindsOf}
-use Rattle.faulting.specs.Told.{addressFaults}
+use Rattle.faulting.specs.Causes.{addressFault, kindsOf, addressFaults}
 use Rattle.faulting.proofs.FaultKinds.{no-kinds}
 use Rattle.compute.specs.declared.Shape.{Shape}
 use Rattle.compute.specs.declared.memory.Change.{Change}
@@ -27,10 +26,10 @@ use Rattle.compute.specs.Values.{specialOf, resultsOf, predicateOf, chan
 use Rattle.compute.specs.Carrying.{Outcome, outcome, faultsOf, afterOf, unlessFault, havingRead}
 use Rattle.compute.specs.Lanewise.{twoLanes, compareLanes, oneLanes, loadLanes, opBy, desiredBy, changeTo}
 use Rattle.compute.specs.Classes.{Ready, Settled, dividingFaults, reached, reachFaults, Loads, storesOf, Stores}
-use Rattle.compute.proofs.Lanewise.{getD-by-lane, by-lane-same}
+use Rattle.compute.proofs.Lanewise.{by-lane-same}
 use Rattle.compute.proofs.Settling.{settled-as, settled-within, settled-changed, settled-same}
 use Rattle.compute.proofs.Standing.{narrow}
-use Rattle.compute.proofs.Addressing.{told-alone}
+use Rattle.compute.proofs.Addressing.{address-at, faults-alone}
 
 settled-outcome : {faults answer : Faults} {changed before after : Lent} → Settled faults changed answer before after
     → outcome answer after ≡ unlessFault faults before changed
@@ -52,6 +51,9 @@ module _ (shape : Shape) (x : Instr) (t p : ℕ) (regs device local : List ℕ) 
 
   abbrev write : List ℕ → List ℕ
   write results = writeLanes shape regs (x .rd) t results
+
+  abbrev bases : List ℕ
+  bases = gatherOf shape regs (x .rs1)
 
   abbrev at : List ℕ
   at = reached shape x regs
@@ -91,27 +93,20 @@ module _ (shape : Shape) (x : Instr) (t p : ℕ) (regs device local : List ℕ) 
   unfolding faultsOf afterOf resultsOf
   as-control o e = rw e (unfaulted _)
 
-  -- a lane's address
-  address-is : W ≤ widest → (i : ℕ) → i < W → getD at i 0 ≡ addressOf (getD (gatherOf shape regs (x .rs1)) i 0) (x .number)
-  address-is n i b = getD-by-lane W _ i b n
-
   as-load : (s : Space) → x .op ≡ Op.Load s → W ≤ widest
       → unlessFault (reachFaults s shape x t regs (memoryOf s both)) before (left (write (loadLanes W at (memoryOf s both))) both) ≡ done
   unfolding faultsOf afterOf resultsOf loadLanes
   as-load s e n =
       rw e
       (ap (λ (results : List ℕ). unlessFault (reachFaults s shape x t regs (memoryOf s both)) before (left (write results) both))
-      (by-lane-same W _ _ (λ i b. ap (λ (a : ℕ). getD (memoryOf s both) (wordOf a) 0) (address-is n i b))))
+      (by-lane-same W _ _ (λ i b. ap (λ (a : ℕ). getD (memoryOf s both) (wordOf a) 0) (address-at W bases (x .number) i b n))))
 
   as-store : (s : Space) → x .op ≡ Op.Store s
       → unlessFault (reachFaults s shape x t regs (memoryOf s both)) before (left regs (changed s (storesOf shape x t regs) both)) ≡ done
   unfolding faultsOf afterOf resultsOf
   as-store s e = rw e refl
 
-  -- an atomic: its addresses, and what it leaves
-  abbrev bases : List ℕ
-  bases = gatherOf shape regs (x .rs1)
-
+  -- an atomic: what it leaves, and its faults
   abbrev changes : (ℕ → ℕ → ℕ) → Lent
   changes f = left (write (byLane W (oldOf bases f t device))) (memories (changesOf W bases f t device) local)
 
@@ -172,9 +167,11 @@ module _ (shape : Shape) (x : Instr) (t p : ℕ) (regs device local : List ℕ) 
 
   -- an atomic, by what `is_clear` told of its faults
   module _ (change : Change) (y : Ready (opBy change) shape x regs) (c : ℕ) (named : c ≡ desiredBy change x) (l : List ℕ) (read : l ≡ bases)
-      (f : Faults) (told : f ≡ addressFaults Space.Device W l 0 (length device) t) (test : Bool) (tested : test ≡ clear f) where
+      (f : Faults) (low : (k : ℕ) → getD regs k 0 < 2 ^ 32) (told : f ≡ addressFaults Space.Device W l 0 (length device) t) (test : Bool) (tested : test ≡ clear f) where
     faults-are : f ≡ atBases
-    faults-are = told ∙ ap (λ (k : List ℕ). addressFaults Space.Device W k 0 (length device) t) read ∙ told-alone Space.Device W (length device) t bases
+    faults-are =
+        told ∙ ap (λ (k : List ℕ). addressFaults Space.Device W k 0 (length device) t) read
+        ∙ faults-alone Space.Device shape regs low (narrow shape x regs (y .shaped)) (x .rs1) (length device) t
 
     -- lane i's change, with the register c
     abbrev to : ℕ → ℕ → ℕ → ℕ

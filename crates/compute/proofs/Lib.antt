@@ -5,8 +5,8 @@ pub mod Changing
 pub mod Walking
 pub mod Standing
 pub mod Settling
-pub mod Dividing
 pub mod Addressing
+pub mod Dividing
 pub mod Arms
 pub mod Carrying
 pub mod FaultLanes

@@ -149,10 +149,10 @@ fn answer_all(cases: &[u8]) {
 }
 
 // Room for the cases. The `ensures` gives only the length, which lending the array as a slice needs.
-fn cases_buffer() -> [u8; 500000]
-    ensures { λ r. ⌜ 500000 ≡ length r ⌝ }
+fn cases_buffer() -> [u8; 600000]
+    ensures { λ r. ⌜ 600000 ≡ length r ⌝ }
 {
-    [0; 500000]
+    [0; 600000]
 }
 
 fn main() {

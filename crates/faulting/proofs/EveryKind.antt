@@ -51,6 +51,19 @@ module _ (f g : ℕ → ℕ) (same : (k : ℕ) → f (suc k) ≡ g (suc k)) wher
   pub faults-same : ofKinds f ≡ ofKinds g
   faults-same = λ i. ofKinds (λ k. numbered-same k i)
 
+-- kind by kind, of the kinds that there are
+pub each-same : (f g : ℕ → ℕ) → ((k : ℕ) → 1 ≤ k → k ≤ kinds → f k ≡ g k) → ofKinds f ≡ ofKinds g
+each-same f g same =
+    λ i.
+    record {
+      odd = same 1 (omega arith) (omega arith) i;
+      device = same 2 (omega arith) (omega arith) i;
+      local = same 3 (omega arith) (omega arith) i;
+      divisor = same 4 (omega arith) (omega arith) i;
+      barrier = same 5 (omega arith) (omega arith) i;
+      over = same 6 (omega arith) (omega arith) i;
+    }
+
 -- ---- the lanes of a kind
 
 in-table : (P : ℕ → Type 0) (lanes : ℕ → ℕ) (k : ℕ) → P (lanes k) → P 0 → (ks : List ℕ) → P (lanesAmong k (table lanes ks))

@@ -1,6 +1,6 @@
 -- The lanes of each kind, of the tests that the code makes: a lane's kind is one number, so that a test of each kind tells the lanes.
 use mathlib.Core.Path.{_≡_, refl, sym, ap, _∙_}
-use mathlib.Core.Bool.{Bool, true, false, not, _&&_, cond, and-false}
+use mathlib.Core.Bool.{Bool, true, false, _&&_, cond, and-false}
 use mathlib.Core.Logic.{dite}
 use Prim.Native.Nat.{ℕ, suc, _^_, _<_, min}
 use native.Mathlib.Decide.{decLt}
@@ -14,7 +14,7 @@ use Rattle.lanes.proofs.Bits.{set-of-same}
 use Rattle.lanes.proofs.Members.{has-set-of, has-past, has-ext}
 use Rattle.lanes.proofs.Picking.{set-of-none}
 use Rattle.instructions.specs.declared.instr.Space.{Space}
-use Rattle.faulting.specs.Kinds.{pastKind, noFaults, ofAddresses, ofDivisors}
+use Rattle.faulting.specs.Kinds.{pastKind, noFaults, ofDivisors}
 use Rattle.faulting.specs.Causes.{divisorFault, faultLanes, kindsOf}
 use Rattle.faulting.proofs.EveryKind.{faults-same}
 
@@ -76,33 +76,9 @@ idle-kinds W t kind h = faults-same (faultLanes W t kind) (λ k. 0) (λ k. lanes
 
 -- ---- addresses
 
--- the kind of an address, of its three tests
+-- the kind of an address, by its three tests
 abbrev pub kindBy : Space → Bool → Bool → Bool → ℕ
 kindBy s over odd past = cond over 6 (cond odd 1 (cond past (pastKind s) 0))
-
-over-kind : (s : Space) (over odd past : Bool) → eqb (kindBy s over odd past) 6 ≡ over
-over-kind s true odd past = refl
-over-kind s false true past = refl
-over-kind Space.Device false false true = refl
-over-kind Space.Local false false true = refl
-over-kind s false false false = refl
-
-odd-kind : (s : Space) (over odd past : Bool) → eqb (kindBy s over odd past) 1 ≡ (not over && odd)
-odd-kind s true odd past = refl
-odd-kind s false true past = refl
-odd-kind Space.Device false false true = refl
-odd-kind Space.Local false false true = refl
-odd-kind s false false false = refl
-
-past-kind : (s : Space) (over odd past : Bool) → eqb (kindBy s over odd past) (pastKind s) ≡ (not over && (not odd && past))
-past-kind Space.Device true odd past = refl
-past-kind Space.Local true odd past = refl
-past-kind Space.Device false true past = refl
-past-kind Space.Local false true past = refl
-past-kind Space.Device false false true = refl
-past-kind Space.Local false false true = refl
-past-kind Space.Device false false false = refl
-past-kind Space.Local false false false = refl
 
 -- it is no other
 other-kind : (s : Space) (over odd past : Bool) (k : ℕ) → (suc k ≡ 6 → ⊥) → (suc k ≡ 1 → ⊥) → (suc k ≡ pastKind s → ⊥)
@@ -119,41 +95,6 @@ module _ (W t : ℕ) (s : Space) (isOver isOdd isPast : ℕ → Bool) where
 
   pub no-other : (k : ℕ) → (suc k ≡ 6 → ⊥) → (suc k ≡ 1 → ⊥) → (suc k ≡ pastKind s → ⊥) → faultLanes W t kindIn (suc k) ≡ 0
   no-other k a b c = lanes-none W t _ (suc k) (λ i l. other-kind s (isOver i) (isOdd i) (isPast i) k a b c)
-
-  -- from the code's three tests
-  module _ (over odd past : ℕ) (v : over ≡ setOf W (λ i. has t i && isOver i)) (o : odd ≡ setOf W (λ i. has t i && (not (isOver i) && isOdd i)))
-      (p : past ≡ setOf W (λ i. has t i && (not (isOver i) && (not (isOdd i) && isPast i)))) where
-    abbrev Lanes : ℕ → ℕ → Type 0
-    Lanes set k = set ≡ faultLanes W t kindIn k
-
-    over-lanes : Lanes over 6
-    over-lanes = v ∙ sym (lanes-by W t _ 6 _ (λ i b. over-kind s (isOver i) (isOdd i) (isPast i)))
-
-    odd-lanes : Lanes odd 1
-    odd-lanes = o ∙ sym (lanes-by W t _ 1 _ (λ i b. odd-kind s (isOver i) (isOdd i) (isPast i)))
-
-    past-lanes : Lanes past (pastKind s)
-    past-lanes = p ∙ sym (lanes-by W t _ (pastKind s) _ (λ i b. past-kind s (isOver i) (isOdd i) (isPast i)))
-
-    -- of number k, where that is a kind's
-    numbered : (set j k : ℕ) → Lanes set j → eqb k j ≡ true → Lanes set k
-    numbered set j k h e = h ∙ ap (faultLanes W t kindIn) (sym (eqb-true k j e))
-
-    of-kind : (k : ℕ) → Lanes (cond (eqb (suc k) 6) over (cond (eqb (suc k) 1) odd (cond (eqb (suc k) (pastKind s)) past 0))) (suc k)
-    of-kind k =
-        cond-by (λ (l : ℕ). Lanes l (suc k)) (eqb (suc k) 6) over _ (numbered over 6 (suc k) over-lanes)
-        (λ a.
-        cond-by (λ (l : ℕ). Lanes l (suc k)) (eqb (suc k) 1) odd _ (numbered odd 1 (suc k) odd-lanes)
-        (λ b.
-        cond-by (λ (l : ℕ). Lanes l (suc k)) (eqb (suc k) (pastKind s)) past 0 (numbered past (pastKind s) (suc k) past-lanes)
-        (λ c. sym (no-other k (other a) (other b) (other c)))))
-      where
-        other : {j k : ℕ} → eqb k j ≡ false → k ≡ j → ⊥
-        other h e = never (sym h ∙ eq-eqb _ _ e)
-
-    pub address-kinds : ofAddresses s over odd past ≡ kindsOf W t kindIn
-    address-kinds =
-        faults-same (λ k. cond (eqb k 6) over (cond (eqb k 1) odd (cond (eqb k (pastKind s)) past 0))) (faultLanes W t kindIn) of-kind
 
 -- ---- divisors
 

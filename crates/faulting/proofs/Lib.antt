@@ -1,7 +1,7 @@
 pub mod EveryKind
 pub mod FaultKinds
 pub mod Marking
-pub mod Reaching
 pub mod Wrapping
+pub mod Reaching
 pub mod KindsApart
 pub mod OneAnswer

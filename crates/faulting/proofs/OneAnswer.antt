@@ -7,8 +7,7 @@ use lib.ListN.{getD}
 use Rattle.instructions.specs.declared.instr.Space.{Space}
 use Rattle.faulting.specs.declared.faults.Faults.{Faults}
 use Rattle.faulting.specs.Kinds.{ofKinds, noFaults, ofBarrier, clear, lanesOfKind}
-use Rattle.faulting.specs.Causes.{divisorFaults}
-use Rattle.faulting.specs.Told.{addressFaults}
+use Rattle.faulting.specs.Causes.{addressFaults, divisorFaults}
 
 pub no-faults-once : (r q : Faults) → r ≡ noFaults → q ≡ noFaults → r ≡ q
 no-faults-once r q e g = e ∙ sym g

@@ -1,30 +1,28 @@
--- Addresses within a memory: an address names a word below 2^30, so that more words reach no further; a loop that asks of every
--- address whether it is in reach, by the bits that any has, the words that they reach through and the lowest; and where all are, no lane faults.
+-- Addresses within a memory: an address names a word below 2^30, so that more words reach no further; a loop that asks of every address
+-- whether it is in reach, by the bits that any has and the highest base; and where all are, no lane faults.
 use mathlib.Core.Path.{_≡_, refl, sym, ap, _∙_}
-use mathlib.Core.Bool.{Bool, true, false, not, _&&_, and-true, and-false, and-assoc}
-use mathlib.Core.List.{List}
+use mathlib.Core.Bool.{Bool, true, false, not, _&&_, cond, and-true, and-false, and-assoc}
+use mathlib.Core.List.{List, [], _∷_}
 use mathlib.Core.Logic.{dite}
-use Prim.Native.Nat.{ℕ, _+_, _/_, _%_, _≤_, _<_, min, max}
+use Prim.Native.Nat.{ℕ, _+_, _*_, _%_, _^_, _≤_, _<_, min, max}
 use native.Mathlib.Decide.{decLt}
 use native.Mathlib.Nat.{min-eq-left, min-eq-right}
 use native.Mathlib.Numerals.{add-one}
 use native.Mathlib.Omega.{arith}
 use lib.Bits.{bitOr, and-le-l, and-le-r, or-add-and, or-mod}
-use lib.Dec.{eqb, leb}
+use lib.Dec.{eqb, ltb}
 use lib.ListN.{length, getD, take, drop, drop-of-length-le}
 use lib.Seq.{drop-cons, getD-take, length-take-le}
-use borrow.Author.Tests.{eqb-true, leb-true, leb-false, ltb-false, not-true, eq-eqb, le-leb, lt-leb, le-ltb}
+use borrow.Author.Tests.{eqb-true, leb-false, ltb-true, not-true, eq-eqb, lt-leb, lt-ltb}
 use Rattle.ground.specs.Tests.{allOf}
 use Rattle.ground.proofs.Bools.{and-left, and-right, and-both}
 use Rattle.ground.proofs.Tests.{same-test, all-at}
-use Rattle.lanes.specs.Sets.{has, setOf}
-use Rattle.lanes.proofs.Bits.{set-of-same}
 use Rattle.instructions.specs.declared.instr.Space.{Space}
-use Rattle.arith.specs.Arith.{wordOf}
-use Rattle.faulting.specs.Kinds.{noFaults}
-use Rattle.faulting.specs.Causes.{isPast, kindsOf}
-use Rattle.faulting.specs.Told.{hasWrapped, toldFault, inReach}
-use Rattle.faulting.proofs.FaultKinds.{no-kinds}
+use Rattle.arith.specs.Arith.{addressOf, wordOf}
+use Rattle.faulting.specs.Kinds.{pastKind, noFaults}
+use Rattle.faulting.specs.Causes.{isOdd, isPast, isOver, sumFault, baseOf, inReach, kindsOf}
+use Rattle.faulting.proofs.FaultKinds.{kinds-same, no-kinds}
+use Rattle.faulting.proofs.Wrapping.{address-told}
 
 -- past the words that an address can name is past all
 named-past : (words named address : ℕ) → named ≡ min words 0x40000000 → wordOf address < 0x40000000 → isPast named address ≡ isPast words address
@@ -35,14 +33,15 @@ named-past words named address e h =
     (λ b. ap (λ (n : ℕ). isPast n address) (min-eq-right (omega arith))
     ∙ lt-leb 0x40000000 (wordOf address) h ∙ sym (lt-leb words (wordOf address) (omega arith)))
 
--- the lanes of t that are, and for which no other test holds
-pub past-same : (W t words named : ℕ) (at : List ℕ) (over odd : ℕ → Bool) → named ≡ min words 0x40000000
-    → ((i : ℕ) → wordOf (getD at i 0) < 0x40000000)
-    → setOf W (λ i. has t i && (not (over i) && (not (odd i) && isPast named (getD at i 0))))
-    ≡ setOf W (λ i. has t i && (not (over i) && (not (odd i) && isPast words (getD at i 0))))
-past-same W t words named at over odd e low =
-    set-of-same W _ _
-    (λ i b. ap (λ (q : Bool). has t i && (not (over i) && (not (odd i) && q))) (named-past words named (getD at i 0) e (low i)))
+-- so that the kinds of addresses are the same
+pub named-kinds : (s : Space) (W t words named offset : ℕ) (at : List ℕ) → named ≡ min words 0x40000000
+    → kindsOf W t (λ i. sumFault s named (baseOf (getD at i 0) offset) offset) ≡ kindsOf W t (λ i. sumFault s words (baseOf (getD at i 0) offset) offset)
+named-kinds s W t words named offset at e =
+    kinds-same W t _ _
+    (λ i b.
+    let base = baseOf (getD at i 0) offset in
+    ap (λ (q : Bool). cond (isOver base offset) 6 (cond (isOdd (addressOf base offset)) 1 (cond q (pastKind s) 0)))
+    (named-past words named (addressOf base offset) e (omega arith)))
 
 -- ---- a loop that asks p of every number of a list: what the numbers left still decide
 
@@ -57,78 +56,92 @@ pub asked-all : (p : ℕ → Bool) (l : List ℕ) (k : ℕ) (all : Bool) → len
 unfolding allOf
 asked-all p l k all h e = sym (e ∙ ap (λ (r : List ℕ). all && allOf p r) (drop-of-length-le l h) ∙ and-true all)
 
--- ---- every address is in reach if the bits that any of them has are no 1 or 2, the words that they reach through are there, and the lowest
--- of them has not wrapped round
+-- ---- every address is in reach if the bits that any of them has are no 1 or 2, and the highest of their bases is below the memory's end
 
-module _ (bits top low address words offset : ℕ) where
-  -- an address that joins the others adds its two lowest bits to theirs
-  bits-more : eqb (bitOr bits address % 4) 0 ≡ (eqb (bits % 4) 0 && eqb (address % 4) 0)
-  bits-more =
-      let m : bitOr bits address % 4 ≡ bitOr (bits % 4) (address % 4) = or-mod bits address 2 in
-      let s = or-add-and (bits % 4) (address % 4) in
-      let l = and-le-l (bits % 4) (address % 4) in
-      let r = and-le-r (bits % 4) (address % 4) in
+module _ (offset words : ℕ) where
+  -- a base below the memory's end
+  abbrev pub isBelow : ℕ → Bool
+  isBelow base = ltb (base + offset) (4 * words)
+
+  module _ (bits top address : ℕ) where
+    -- an address that joins the others adds its two lowest bits to theirs
+    bits-more : eqb (bitOr bits address % 4) 0 ≡ (eqb (bits % 4) 0 && eqb (address % 4) 0)
+    bits-more =
+        let m : bitOr bits address % 4 ≡ bitOr (bits % 4) (address % 4) = or-mod bits address 2 in
+        let s = or-add-and (bits % 4) (address % 4) in
+        let l = and-le-l (bits % 4) (address % 4) in
+        let r = and-le-r (bits % 4) (address % 4) in
+        same-test _ _
+        (λ e.
+        let z = eqb-true (bitOr bits address % 4) 0 e in
+        and-both _ _ (eq-eqb (bits % 4) 0 (omega (arith, z, m, s, r))) (eq-eqb (address % 4) 0 (omega (arith, z, m, s, l))))
+        (λ e.
+        let b = eqb-true (bits % 4) 0 (and-left _ _ e) in
+        let a = eqb-true (address % 4) 0 (and-right (eqb (bits % 4) 0) _ e) in
+        eq-eqb (bitOr bits address % 4) 0 (omega (arith, a, b, m, s)))
+
+    -- and its base may be the highest
+    top-more : (base : ℕ) → isBelow (max top base) ≡ (isBelow top && isBelow base)
+    top-more base =
+        same-test _ _
+        (λ e.
+        let t = ltb-true (max top base + offset) (4 * words) e in
+        and-both _ _ (lt-ltb (top + offset) (4 * words) (omega (arith, t))) (lt-ltb (base + offset) (4 * words) (omega (arith, t))))
+        (λ e.
+        let t = ltb-true (top + offset) (4 * words) (and-left _ _ e) in
+        let b = ltb-true (base + offset) (4 * words) (and-right (isBelow top) _ e) in
+        lt-ltb (max top base + offset) (4 * words) (omega (arith, t, b)))
+
+    -- two tests of both are two of one and two of the other
+    apiece : (a b x y : Bool) → ((a && x) && (b && y)) ≡ ((a && b) && (x && y))
+    apiece false b x y = refl
+    apiece true false x y = and-false x
+    apiece true true x y = refl
+
+    pub reach-more : (eqb (bitOr bits address % 4) 0 && isBelow (max top (baseOf address offset)))
+        ≡ ((eqb (bits % 4) 0 && isBelow top) && inReach offset words address)
+    reach-more = rw (bits-more, top-more (baseOf address offset)) (apiece (eqb (bits % 4) 0) (isBelow top) _ _)
+
+  -- before the first: where some base is below the memory's end a base of 0 is
+  pub reach-none : (l : List ℕ) → 0 < length l → allOf (inReach offset words) l ≡ (isBelow 0 && allOf (inReach offset words) l)
+  unfolding allOf
+  reach-none [] h = absurd (omega arith)
+  reach-none (a ∷ l) h =
       same-test _ _
       (λ e.
-      let z = eqb-true (bitOr bits address % 4) 0 e in
-      and-both _ _ (eq-eqb (bits % 4) 0 (omega (arith, z, m, s, r))) (eq-eqb (address % 4) 0 (omega (arith, z, m, s, l))))
-      (λ e.
-      let b = eqb-true (bits % 4) 0 (and-left _ _ e) in
-      let a = eqb-true (address % 4) 0 (and-right (eqb (bits % 4) 0) _ e) in
-      eq-eqb (bitOr bits address % 4) 0 (omega (arith, a, b, m, s)))
+      let t = ltb-true (baseOf a offset + offset) (4 * words) (and-right (eqb (a % 4) 0) _ (and-left (inReach offset words a) _ e)) in
+      and-both _ _ (lt-ltb (0 + offset) (4 * words) (omega (arith, t))) e)
+      (λ e. and-right (isBelow 0) _ e)
 
-  -- its word may be the highest
-  top-more : leb (max top (address / 4 + 1)) words ≡ (leb top words && not (isPast words address))
-  top-more =
+  -- a base is below the memory's end if its sum has not wrapped round and its address is not past the memory
+  pub below-told : (base : ℕ) → words ≤ 0x40000000 → (not (isOver base offset) && not (isPast words (addressOf base offset))) ≡ isBelow base
+  below-told base w =
       same-test _ _
       (λ e.
-      let t = leb-true (max top (address / 4 + 1)) words e in
-      and-both _ _ (le-leb top words (omega (arith, t))) (ap not (lt-leb words (wordOf address) (omega (arith, t)))))
+      let n = leb-false (2 ^ 32) (base + offset) (not-true _ (and-left _ _ e)) in
+      let p = leb-false words (wordOf (addressOf base offset)) (not-true _ (and-right (not (isOver base offset)) _ e)) in
+      lt-ltb (base + offset) (4 * words) (omega (arith, n, p)))
       (λ e.
-      let t = leb-true top words (and-left _ _ e) in
-      let w = leb-false words (wordOf address) (not-true _ (and-right (leb top words) _ e)) in
-      le-leb (max top (address / 4 + 1)) words (omega (arith, t, w)))
-
-  -- and it the lowest
-  low-more : leb offset (min low address) ≡ (leb offset low && not (hasWrapped offset address))
-  low-more =
-      same-test _ _
-      (λ e.
-      let t = leb-true offset (min low address) e in
-      and-both _ _ (le-leb offset low (omega (arith, t))) (ap not (le-ltb address offset (omega (arith, t)))))
-      (λ e.
-      let t = leb-true offset low (and-left _ _ e) in
-      let w = ltb-false address offset (not-true _ (and-right (leb offset low) _ e)) in
-      le-leb offset (min low address) (omega (arith, t, w)))
-
-  -- three tests of both are three of one and three of the other
-  apiece : (a b c x y z : Bool) → (((a && x) && (b && y)) && (c && z)) ≡ (((a && b) && c) && ((x && y) && z))
-  apiece false b c x y z = refl
-  apiece true false c x y z = rw (and-false x) refl
-  apiece true true false x y z = and-false (x && y)
-  apiece true true true x y z = refl
-
-  pub reach-more :
-      ((eqb (bitOr bits address % 4) 0 && leb (max top (address / 4 + 1)) words) && leb offset (min low address))
-      ≡ (((eqb (bits % 4) 0 && leb top words) && leb offset low) && inReach offset words address)
-  reach-more = rw (bits-more, top-more, low-more) (apiece (eqb (bits % 4) 0) (leb top words) (leb offset low) _ _ _)
+      let t = ltb-true (base + offset) (4 * words) e in
+      and-both _ _ (ap not (lt-leb (2 ^ 32) (base + offset) (omega (arith, t))))
+      (ap not (lt-leb words (wordOf (addressOf base offset)) (omega (arith, t)))))
 
 -- ---- where every address is in reach, no lane faults
 
-unfaulted : (s : Space) (words named offset address : ℕ) → named ≡ min words 0x40000000 → wordOf address < 0x40000000
-    → inReach offset named address ≡ true → toldFault s words offset address ≡ 0
-unfaulted s words named offset address e low h =
-    let within = and-left (eqb (address % 4) 0 && not (isPast named address)) _ h in
-    let whole = not-true (hasWrapped offset address) (and-right (eqb (address % 4) 0 && not (isPast named address)) _ h) in
-    let past = not-true (isPast named address) (and-right (eqb (address % 4) 0) (not (isPast named address)) within) in
-    rw (whole, and-left (eqb (address % 4) 0) (not (isPast named address)) within, sym (named-past words named address e low) ∙ past) refl
+unfaulted : (s : Space) (words offset address : ℕ) → words ≤ 0x40000000 → address < 2 ^ 32 → offset < 2 ^ 32 → inReach offset words address ≡ true
+    → sumFault s words (baseOf address offset) offset ≡ 0
+unfaulted s words offset address w a o h =
+    let m = eqb-true (address % 4) 0 (and-left _ _ h) in
+    let t = ltb-true (baseOf address offset + offset) (4 * words) (and-right (eqb (address % 4) 0) _ h) in
+    let e = address-told address offset a o in
+    rw (lt-leb (2 ^ 32) (baseOf address offset + offset) (omega (arith, t)), e, eq-eqb (address % 4) 0 m, lt-leb words (wordOf address) (omega (arith, t, e))) refl
 
-pub all-in-reach : (s : Space) (W t words named offset : ℕ) (at : List ℕ) → named ≡ min words 0x40000000
-    → ((i : ℕ) → wordOf (getD at i 0) < 0x40000000) → W ≤ length at → allOf (inReach offset named) (take W at) ≡ true
-    → noFaults ≡ kindsOf W t (λ i. toldFault s words offset (getD at i 0))
-all-in-reach s W t words named offset at e low long h =
+pub all-in-reach : (s : Space) (W t words offset : ℕ) (at : List ℕ) → words ≤ 0x40000000 → ((i : ℕ) → getD at i 0 < 2 ^ 32) → offset < 2 ^ 32
+    → W ≤ length at → allOf (inReach offset words) (take W at) ≡ true
+    → noFaults ≡ kindsOf W t (λ i. sumFault s words (baseOf (getD at i 0) offset) offset)
+all-in-reach s W t words offset at w low o long h =
     no-kinds W t _
     (λ i b.
     let n : i < length (take W at) = omega (arith, length-take-le W at long) in
-    unfaulted s words named offset (getD at i 0) e (low i)
-    (ap (inReach offset named) (sym (getD-take W at i 0 b)) ∙ all-at (inReach offset named) (take W at) i 0 h n))
+    unfaulted s words offset (getD at i 0) w (low i) o
+    (ap (inReach offset words) (sym (getD-take W at i 0 b)) ∙ all-at (inReach offset words) (take W at) i 0 h n))

@@ -58,11 +58,6 @@ abbrev pub pastKind : Space → ℕ
 pastKind Space.Device = 2
 pastKind Space.Local = 3
 
--- of addresses: the lanes whose base plus offset reaches 2^32, those whose address is not a multiple of 4, and those whose address is past
--- the memory
-abbrev pub ofAddresses : Space → ℕ → ℕ → ℕ → Faults
-ofAddresses s over odd past = ofKinds (λ k. cond (eqb k 6) over (cond (eqb k 1) odd (cond (eqb k (pastKind s)) past 0)))
-
 -- of divisors, and of a barrier
 abbrev pub ofDivisors : ℕ → Faults
 ofDivisors lanes = ofKinds (λ k. cond (eqb k 4) lanes 0)

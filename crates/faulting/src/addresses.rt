@@ -1,27 +1,21 @@
 // The lanes whose addresses fault.
 ghost use mathlib.Core.Path.{_≡_};
-ghost use mathlib.Core.Bool.{not, _&&_};
 ghost use Prim.Native.Nat.{_≤_, min, max};
 ghost use lib.ListN.{getD, take};
 ghost use Rattle.ground.specs.Tests.{allOf};
-ghost use Rattle.lanes.specs.Sets.{widest, has, setOf};
-ghost use Rattle.faulting.specs.Causes.{isOdd, isPast};
-ghost use Rattle.faulting.specs.Told.{hasWrapped, addressFaults, inReach};
+ghost use Rattle.lanes.specs.Sets.{widest};
+ghost use Rattle.faulting.specs.Kinds.{pastKind};
+ghost use Rattle.faulting.specs.Causes.{isPast, isOver, sumFault, baseOf, inReach, faultLanes, addressFaults};
 use crate::faults::Faults;
+use crate::faults::KINDS;
+use crate::faults::from_lanes;
 use crate::faults::no_faults;
-use crate::faults::of_addresses;
 use crate::widths::narrowed;
+use arith::sums::address;
+use arith::sums::sub;
 use instructions::instr::Space;
 use lanes::ByLane;
 use lanes::Lanes;
-
-// The lanes whose address has wrapped round; of the others, those whose address is not a multiple of 4, and those whose address is one and
-// past the memory.
-struct Access {
-    over: Lanes,
-    odd: Lanes,
-    past: Lanes,
-}
 
 // How many of a memory's words an address can name.
 fn nameable(words: usize) -> u32
@@ -41,70 +35,118 @@ fn past_end(address: u32, words: u32) -> bool
     words <= address / 4
 }
 
-// The larger, and the smaller, of two numbers.
+// Whether a base plus an offset reaches 2^32: their sum has then wrapped round, to below the offset.
+fn is_over(base: u32, offset: u32) -> bool
+    ensures { λ r. ⌜ r ≡ isOver base offset ⌝ }
+{
+    address(base, offset) < offset
+}
+
+// The larger of two numbers.
 fn larger(a: u32, b: u32) -> u32
     ensures { λ r. ⌜ r ≡ max a b ⌝ }
 {
     if a < b { b } else { a }
 }
 
-fn smaller(a: u32, b: u32) -> u32
-    ensures { λ r. ⌜ r ≡ min a b ⌝ }
-{
-    if a < b { a } else { b }
-}
-
-// Whether every lane's address, of the lanes that do not execute too, is without a fault, in a memory of so many words: by the bits that any
-// address has, by how many words they reach through, and by the lowest, which is below the offset where one has wrapped round.
+// Whether no lane's address faults, of the lanes that do not execute too, in a memory of so many words: by the bits that any address has,
+// and by the highest base, whose address is the highest unless it has wrapped round.
 fn all_reach(at: ByLane, offset: u32, words: u32, width: u32) -> bool
-    requires { ⌜ width ≤ widest ⌝ }
+    requires { ⌜ (width ≤ widest) × (words ≤ 0x40000000) ⌝ }
     ensures { λ r. ⌜ r ≡ allOf (inReach offset words) (take width at) ⌝ }
 {
+    if width == 0 {
+        return true;
+    }
     let end = width as usize;
     let mut bits: u32 = 0;
     let mut top: u32 = 0;
-    let mut lowest: u32 = 0xffff_ffff;
     let mut k: usize = 0;
     while k < end {
-        let address = at[k];
-        bits = bits | address;
-        top = larger(top, address / 4 + 1);
-        lowest = smaller(lowest, address);
+        bits = bits | at[k];
+        top = larger(top, sub(at[k], offset));
         k += 1;
     }
-    (bits % 4 == 0) & (top <= words) & (offset <= lowest)
+    let beyond = past_end(address(top, offset), words);
+    (bits % 4 == 0) & !is_over(top, offset) & !beyond
 }
 
-// The lanes of `t` that can't reach their addresses, each with the offset added, in a memory of so many words.
-fn reach(at: ByLane, offset: u32, words: u32, t: Lanes, width: u32) -> Access
-    requires { ⌜ width ≤ widest ⌝ }
-    ensures over { λ r. ⌜ r .over ≡ setOf width (λ i. has t i && hasWrapped offset (getD at i 0)) ⌝ }
-    ensures odd { λ r. ⌜ r .odd ≡ setOf width (λ i. has t i && (not (hasWrapped offset (getD at i 0)) && isOdd (getD at i 0))) ⌝ }
-    ensures past { λ r. ⌜ r .past ≡ setOf width (λ i. has t i && (not (hasWrapped offset (getD at i 0)) && (not (isOdd (getD at i 0)) && isPast words (getD at i 0)))) ⌝ }
+// The kinds' numbers.
+const ODD: u32 = 1;
+
+const PAST_DEVICE: u32 = 2;
+
+const PAST_LOCAL: u32 = 3;
+
+const OVER: u32 = 6;
+
+// The kind of an address past a memory.
+fn past_kind(space: Space) -> u32
+    ensures { λ r. ⌜ r ≡ pastKind space ⌝ }
 {
-    let mut over: Lanes = 0;
-    let mut odd: Lanes = 0;
-    let mut past: Lanes = 0;
+    match space {
+        Space::Device => PAST_DEVICE,
+        Space::Local => PAST_LOCAL,
+    }
+}
+
+// The kind of fault of an address that the offset was added to, in a memory of so many words; 0 for none.
+fn kind_at(space: Space, address: u32, offset: u32, words: u32) -> u32
+    ensures { λ r. ⌜ r ≡ sumFault space words (baseOf address offset) offset ⌝ }
+{
+    if is_over(sub(address, offset), offset) {
+        return OVER;
+    }
+    let unaligned = address % 4 != 0;
+    if unaligned {
+        return ODD;
+    }
+    if past_end(address, words) {
+        return past_kind(space);
+    }
+    0
+}
+
+// The lanes of `t` whose address has this kind of fault.
+fn lanes_of(
+    kind: u32,
+    space: Space,
+    at: ByLane,
+    offset: u32,
+    words: u32,
+    t: Lanes,
+    width: u32,
+) -> Lanes
+    requires { ⌜ width ≤ widest ⌝ }
+    ensures { λ r. ⌜ r ≡ faultLanes width t (λ i. sumFault space words (baseOf (getD at i 0) offset) offset) kind ⌝ }
+{
+    let mut set: Lanes = 0;
     let mut i: u32 = 0;
     while i < width {
         let k = i as usize;
-        let address = at[k];
-        let executes = lanes::has(t, i);
-        let wrapped = address < offset;
-        let unaligned = address % 4 != 0;
-        let beyond = past_end(address, words);
-        over = lanes::union(over, lanes::only(i, executes & wrapped));
-        odd = lanes::union(odd, lanes::only(i, executes & (!wrapped & unaligned)));
-        past = lanes::union(
-            past,
-            lanes::only(i, executes & (!wrapped & (!unaligned & beyond))),
-        );
+        let found = kind_at(space, at[k], offset, words) == kind;
+        set = lanes::union(set, lanes::only(i, lanes::has(t, i) & found));
         i += 1;
     }
-    Access { over, odd, past }
+    set
 }
 
-// The faults of the lanes `t` at their addresses, each a base with the offset added, in a memory of so many words.
+// The faults of the lanes `t`, kind by kind.
+fn each_kind(space: Space, at: ByLane, offset: u32, words: u32, t: Lanes, width: u32) -> Faults
+    requires { ⌜ width ≤ widest ⌝ }
+    ensures { λ r. ⌜ r ≡ addressFaults space width at offset words t ⌝ }
+{
+    let mut lanes = [0u32; KINDS];
+    let mut k: usize = 0;
+    while k < KINDS {
+        lanes[k] = lanes_of(k as u32 + 1, space, at, offset, words, t, width);
+        k += 1;
+    }
+    from_lanes(lanes)
+}
+
+// The faults of the lanes `t` at their addresses, each a base with the offset added, in a memory of so many words. The lanes are looked at by
+// a call for each memory, so that the shortcut alone is compiled into the callers.
 pub fn address_faults(
     space: Space,
     at: ByLane,
@@ -120,6 +162,8 @@ pub fn address_faults(
     if all_reach(at, offset, named, end) {
         return no_faults();
     }
-    let access = reach(at, offset, named, t, end);
-    of_addresses(space, access.over, access.odd, access.past)
+    match space {
+        Space::Device => each_kind(Space::Device, at, offset, named, t, end),
+        Space::Local => each_kind(Space::Local, at, offset, named, t, end),
+    }
 }

@@ -3,22 +3,21 @@
 ghost use mathlib.Core.Path.{_≡_};
 ghost use Prim.Native.Nat.{ℕ, _-_};
 ghost use lib.ListN.{getD};
-ghost use Rattle.faulting.specs.Kinds.{ofKinds, noFaults, ofAddresses, ofDivisors, ofBarrier, clear, lanesOfKind};
-use instructions::instr::Space;
+ghost use Rattle.faulting.specs.Kinds.{ofKinds, noFaults, ofDivisors, ofBarrier, clear, lanesOfKind};
 use lanes::Lanes;
 
 // How many kinds there are: their numbers are 1 to this.
 pub const KINDS: usize = 6;
 
-// The lanes of each kind of fault: 1 an address that is not a multiple of 4, 2 device and 3 local address past the memory, 4 a divisor
-// of zero, 5 a barrier that some lane has not reached, 6 a base plus an offset that reaches 2^32.
+// The lanes of each kind of fault, in the order in which they are tested: 6 a base plus an offset that reaches 2^32, 1 an address that is
+// not a multiple of 4, 2 device and 3 local address past the memory, 4 a divisor of zero, 5 a barrier that some lane has not reached.
 pub struct Faults {
+    pub over: Lanes,
     pub odd: Lanes,
     pub device: Lanes,
     pub local: Lanes,
     pub divisor: Lanes,
     pub barrier: Lanes,
-    pub over: Lanes,
 }
 
 // No fault.
@@ -46,31 +45,6 @@ pub fn from_lanes(lanes: [Lanes; KINDS]) -> Faults
         divisor: lanes[3],
         barrier: lanes[4],
         over: lanes[5],
-    }
-}
-
-// The faults of addresses: the lanes whose base plus offset reaches 2^32, those whose address is not a multiple of 4, and those whose
-// address is past the memory.
-pub(crate) fn of_addresses(space: Space, over: Lanes, odd: Lanes, past: Lanes) -> Faults
-    ensures { λ r. ⌜ r ≡ ofAddresses space over odd past ⌝ }
-{
-    match space {
-        Space::Device => Faults {
-            odd,
-            device: past,
-            local: 0,
-            divisor: 0,
-            barrier: 0,
-            over,
-        },
-        Space::Local => Faults {
-            odd,
-            device: 0,
-            local: past,
-            divisor: 0,
-            barrier: 0,
-            over,
-        },
     }
 }
 

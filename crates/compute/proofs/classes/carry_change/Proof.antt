@@ -1,10 +1,17 @@
 -- `compute::classes::carry_change` meets its contract: the atomics at the addresses and the old words written, by what `is_clear` told of
 -- the faults.
+use Prim.Native.Nat.{ℕ, _^_, _<_}
+use native.Mathlib.Omega.{arith}
+use lib.ListN.{getD}
 use borrow.Author.Needs.{needs}
 use Rattle.compute.proofs.Standing.{ready-change}
 use Rattle.compute.proofs.Arms.{arm-change, arm-unchanged}
 use Rattle.compute.proofs.classes.carry_change.Statement.{statement}
 use Rattle.compute.proofs.classes.carry_change.Tie as tie
+
+-- a register is a number of 32 bits
+register-low : (z : tie.After-slice-known) (k : ℕ) → getD (z .before .args .regs .now) k 0 < 2 ^ 32
+register-low z k = omega (arith, z .slice-known .given k)
 
 returns : tie.Need-returns
 returns c local p =
@@ -16,7 +23,7 @@ returns c local p =
     let z = d .before .before .before in
     let a = z .args in
     arm-change (a .shape) (a .x) (a .t) p (a .regs .now) (a .device .now) local (a .change) (z .pre) _ (d .desired .ensures) _ (g .gather .ensures)
-    _ (i .before .before .address-faults .ensures) _ (i .before .is-clear .ensures) _ _ _ _ (i .if1 .taken) (v .change-lanes .ensures .0)
+    _ (register-low (d .before .before)) (i .before .before .address-faults .ensures) _ (i .before .is-clear .ensures) _ _ _ _ (i .if1 .taken) (v .change-lanes .ensures .0)
     (v .change-lanes .ensures .1) (w .write-results .ensures)
 
 returns-2 : tie.Need-returns-2
@@ -26,7 +33,7 @@ returns-2 c local p =
     let z = d .before .before .before in
     let a = z .args in
     arm-unchanged (a .shape) (a .x) (a .t) p (a .regs .now) (a .device .now) local (a .change) (z .pre) _ (d .desired .ensures) _
-    (g .gather .ensures) _ (c .before .before .address-faults .ensures) _ (c .before .is-clear .ensures) (c .if1 .left)
+    (g .gather .ensures) _ (register-low (d .before .before)) (c .before .before .address-faults .ensures) _ (c .before .is-clear .ensures) (c .if1 .left)
 
 change-lanes-requires : tie.Need-change-lanes-requires
 change-lanes-requires c κs =

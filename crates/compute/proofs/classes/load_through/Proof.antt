@@ -26,7 +26,7 @@ faults-are f =
     let z = f .before .before .before .before .before in
     let a = z .args in
     let low : (k : ℕ) → getD (a .regs .now) k 0 < 2 ^ 32 = λ k. omega (arith, f .before .before .before .before .slice-known .given k) in
-    reach-told (a .space) (a .shape) (a .x) (a .t) (a .regs .now) (a .memory .now) (ready-narrow (z .pre)) low (offset-low z) _
+    reach-told (a .space) (a .shape) (a .regs .now) low (ready-narrow (z .pre)) (a .x) (a .t) (a .memory .now) (offset-low z) _
     (f .before .addresses .ensures) _ (f .address-faults .ensures)
 
 returns : tie.Need-returns
