@@ -1,3 +1,3 @@
 """The desk's front: it builds and runs the proved programs, keeps files safe, and says in words what they answered."""
 
-VERSION = '1.2'
+VERSION = '1.3'

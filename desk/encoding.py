@@ -1,6 +1,6 @@
 """The fields of an instruction's words, for saying which one broke a rule. What is refused is decided by the proved program alone."""
 
-TWO, COMPARE, ONE, SPECIAL, NUMBER, MEMORY, ATOMIC, SWAP, CONTROL = range(9)
+TWO, COMPARE, ONE, SPECIAL, NUMBER, MEMORY, ATOMIC, SWAP, WAVE, CONTROL = range(10)
 
 FORMS = {
     TWO: {0x00: 'ADD', 0x01: 'SUB', 0x02: 'MUL', 0x03: 'DIV', 0x04: 'UDIV', 0x05: 'REM', 0x06: 'UREM', 0x09: 'MIN', 0x0A: 'MAX',
@@ -12,18 +12,23 @@ FORMS = {
     MEMORY: {0x30: 'LOAD', 0x38: 'LOCAL_LOAD', 0x31: 'STORE', 0x39: 'LOCAL_STORE'},
     ATOMIC: {0x3C: 'ATOMIC'},
     SWAP: {0x3D: 'CAS'},
+    WAVE: {0x3E: 'wave operation'},
     CONTROL: {0x3F: 'control'},
 }
 FORM_OF = {opcode: form for form, names in FORMS.items() for opcode in names}
 NAME_OF = {opcode: name for names in FORMS.values() for opcode, name in names.items()}
 
+WAVES = {0: 'BROADCAST', 1: 'REDUCE_ADD', 2: 'REDUCE_MIN', 3: 'REDUCE_MAX', 4: 'PREFIX_SUM', 5: 'SHUFFLE', 6: 'BALLOT', 7: 'ANY', 8: 'ALL'}
 CONTROLS = {0: 'IF', 1: 'ELSE', 2: 'ENDIF', 3: 'LOOP', 4: 'BREAK', 5: 'CONTINUE', 6: 'ENDLOOP', 9: 'HALT', 10: 'BARRIER', 15: 'NOP'}
 GUARDED_CONTROLS = ('IF', 'BREAK', 'CONTINUE', 'HALT')
 
-# The fields that an operation of each form uses, beside its opcode, modifier and predicate.
+# The names by modifier, of the opcodes that have several.
+NAMED = {WAVE: WAVES, CONTROL: CONTROLS}
+
+# The fields that an operation of each form uses, beside its opcode, modifier and predicate. SHUFFLE uses those of two registers.
 USED = {TWO: 'RD RS1 RS2', COMPARE: 'RD RS1 RS2', ONE: 'RD RS1', SPECIAL: 'RD RS1', NUMBER: 'RD', MEMORY: 'RD RS1',
-        ATOMIC: 'RD RS1 RS2 scope', SWAP: 'RD RS1 RS2 RS3 scope', CONTROL: ''}
-REGISTER_FORMS = (TWO, COMPARE, ATOMIC, SWAP)
+        ATOMIC: 'RD RS1 RS2 scope', SWAP: 'RD RS1 RS2 RS3 scope', WAVE: 'RD RS1', CONTROL: ''}
+REGISTER_FORMS = (TWO, COMPARE, ATOMIC, SWAP, WAVE)
 
 
 def opcode_cause(word):
@@ -31,7 +36,7 @@ def opcode_cause(word):
     opcode, modifier = word >> 24, word >> 4 & 15
     if opcode not in FORM_OF:
         return f'opcode {opcode:02X} is not carried'
-    listed = {ATOMIC: range(10), CONTROL: CONTROLS}.get(FORM_OF[opcode], (0,))
+    listed = {ATOMIC: range(10), **NAMED}.get(FORM_OF[opcode], (0,))
     if modifier not in listed:
         return f'modifier {modifier} is not listed for opcode {opcode:02X}, {NAME_OF[opcode]}'
     return None
@@ -41,12 +46,12 @@ def field_causes(word, second):
     """What is wrong with the fields of an instruction whose opcode is carried; `second` is its second word, or None."""
     opcode = word >> 24
     form = FORM_OF[opcode]
-    name = CONTROLS[word >> 4 & 15] if form == CONTROL else NAME_OF[opcode]
+    name = NAMED[form][word >> 4 & 15] if form in NAMED else NAME_OF[opcode]
     fields = {'RD': word >> 16 & 255, 'RS1': word >> 8 & 255, 'bit 3': word >> 3 & 1}
     if form in REGISTER_FORMS and second is not None:
         fields.update({'RS2': second >> 24, 'RS3': second >> 16 & 255, 'RS4': second >> 8 & 255,
                        'field 7:2 of the second word': second >> 2 & 63, 'scope': second & 3})
-    used = USED[form].split()
+    used = USED[TWO if name == 'SHUFFLE' else form].split()
     causes = [f'{field} is {value}, not 0, and {name} does not use it' for field, value in fields.items() if value and field not in used]
     return causes + value_causes(form, name, fields) + predicate_causes(form, name, word & 3, word >> 2 & 1)
 

@@ -1,5 +1,5 @@
 #!/usr/bin/env python3
-"""The cases of the program block_cases and the answers to them, written from page 01 alone.
+"""The cases of the program block_cases and the answers to them, written from page 01 and page 02 (wave operations) alone.
 
     block_cases.py --write    writes crates/block_cases/stdin and stdout
     block_cases.py --check    fails if the stored files are not what --write would write
@@ -11,26 +11,31 @@ from lib import stored
 RS2_FORM = [0x00, 0x01, 0x02, 0x03, 0x04, 0x05, 0x06, 0x09, 0x0A, 0x0B, 0x20, 0x21, 0x22, 0x24, 0x25, 0x26]
 COMPARISONS = [0x28, 0x29, 0x2A, 0x2B]
 ONE_WORD = [0x07, 0x08, 0x23, 0x27, 0xF0]
-MOV_IMM, MOV_SPECIAL, ATOMIC, CAS, CONTROL = 0xF1, 0xF2, 0x3C, 0x3D, 0x3F
+MOV_IMM, MOV_SPECIAL, ATOMIC, CAS, WAVE, CONTROL = 0xF1, 0xF2, 0x3C, 0x3D, 0x3E, 0x3F
 MEMORY = [0x30, 0x38, 0x31, 0x39]
-IF, ELSE, ENDIF, LOOP, BREAK, CONTINUE, ENDLOOP, HALT, BARRIER, NOP = 0, 1, 2, 3, 4, 5, 6, 9, 10, 15
+REDUCE_ADD, SHUFFLE, BALLOT = 1, 5, 6
+IF, ELSE, ENDIF, LOOP, BREAK, CONTINUE, ENDLOOP, HALT, BARRIER, NOP = CONTROLS = 0, 1, 2, 3, 4, 5, 6, 9, 10, 15
 NEEDS_NONE = [ELSE, ENDIF, LOOP, ENDLOOP, BARRIER, NOP]
 
-# For each opcode: its modifiers, whether RD and RS1 are registers, and word 1: none, a number, or the registers of RS2, RS3 and whether scope is used.
+# For each opcode and modifier: whether RD and RS1 are registers, and word 1: none, a number, or the registers of RS2, RS3 and whether scope is used.
 CARRIED = {}
 for code in RS2_FORM:
-    CARRIED[code] = ([0], 'register', 'register', (True, False, False))
+    CARRIED[code, 0] = ('register', 'register', (True, False, False))
 for code in COMPARISONS:
-    CARRIED[code] = ([0], 'predicate', 'register', (True, False, False))
+    CARRIED[code, 0] = ('predicate', 'register', (True, False, False))
 for code in ONE_WORD:
-    CARRIED[code] = ([0], 'register', 'register', None)
+    CARRIED[code, 0] = ('register', 'register', None)
 for code in MEMORY:
-    CARRIED[code] = ([0], 'register', 'register', 'number')
-CARRIED[MOV_SPECIAL] = ([0], 'register', 'special', None)
-CARRIED[MOV_IMM] = ([0], 'register', 'unused', 'number')
-CARRIED[ATOMIC] = (list(range(10)), 'register', 'register', (True, False, True))
-CARRIED[CAS] = ([0], 'register', 'register', (True, True, True))
-CARRIED[CONTROL] = ([IF, ELSE, ENDIF, LOOP, BREAK, CONTINUE, ENDLOOP, HALT, BARRIER, NOP], 'unused', 'unused', None)
+    CARRIED[code, 0] = ('register', 'register', 'number')
+CARRIED[MOV_SPECIAL, 0] = ('register', 'special', None)
+CARRIED[MOV_IMM, 0] = ('register', 'unused', 'number')
+for number in range(10):
+    CARRIED[ATOMIC, number] = ('register', 'register', (True, False, True))
+CARRIED[CAS, 0] = ('register', 'register', (True, True, True))
+for number in range(9):
+    CARRIED[WAVE, number] = ('register', 'register', (number == SHUFFLE, False, False))
+for number in CONTROLS:
+    CARRIED[CONTROL, number] = ('unused', 'unused', None)
 
 
 def word0(opcode, rd=0, rs1=0, modifier=0, negate=0, predicate=0, bit3=0):
@@ -46,9 +51,9 @@ def read(code, at, registers):
     w = code[at]
     opcode, rd, rs1, modifier = w >> 24, w >> 16 & 255, w >> 8 & 255, w >> 4 & 15
     bit3, negate, predicate = w >> 3 & 1, w >> 2 & 1, w & 3
-    if opcode not in CARRIED or modifier not in CARRIED[opcode][0]:
+    if (opcode, modifier) not in CARRIED:
         return 4
-    _, rd_is, rs1_is, second = CARRIED[opcode]
+    rd_is, rs1_is, second = CARRIED[opcode, modifier]
     width = 1 if second is None else 2
     if at + width > len(code):
         return 5
@@ -127,30 +132,30 @@ mov_imm = [word0(MOV_IMM), 5]
 
 
 def instruction(opcode, rd=0, rs1=0, rs2=0, rs3=0, modifier=0):
-    second = CARRIED[opcode][3]
+    rd_is, _, second = CARRIED[opcode, modifier]
     predicate = 1 if opcode == CONTROL and modifier == IF else 0
-    rd = 1 if CARRIED[opcode][1] == 'predicate' else rd
+    rd = 1 if rd_is == 'predicate' else rd
     return [word0(opcode, rd, rs1, modifier, 0, predicate)] + ([] if second is None else [0xFFFFFFFF] if second == 'number' else [word1(rs2, rs3)])
 
 
 def whole_instructions():
     yield 16, []
-    for opcode in sorted(CARRIED):
-        for modifier in CARRIED[opcode][0]:
-            words = instruction(opcode, modifier=modifier)
-            yield 1, words
-            if len(words) == 2:  # the second word is missing, at place 0 and behind others
-                yield 1, words[:1]
-                yield 4, add + nop + words[:1]
+    for opcode, modifier in sorted(CARRIED):
+        words = instruction(opcode, modifier=modifier)
+        yield 1, words
+        if len(words) == 2:  # the second word is missing, at place 0 and behind others
+            yield 1, words[:1]
+            yield 4, add + nop + words[:1]
 
 
 def not_carried():
-    for opcode in (0x0C, 0x1F, 0x2C, 0x32, 0x3A, 0x3B, 0x3E, 0x40, 0xEF, 0xF3, 0xFF):
+    for opcode in (0x0C, 0x1F, 0x2C, 0x32, 0x3A, 0x3B, 0x40, 0xEF, 0xF3, 0xFF):
         yield 16, nop + [word0(opcode)]
-    for opcode in sorted(CARRIED):
+    for opcode in sorted({opcode for opcode, _ in CARRIED}):
         for modifier in range(16):
-            if modifier not in CARRIED[opcode][0] and (modifier in (1, 15) or opcode in (ATOMIC, CONTROL)):
+            if (opcode, modifier) not in CARRIED and (modifier in (1, 15) or opcode in (ATOMIC, WAVE, CONTROL)):
                 yield 16, [word0(opcode, modifier=modifier)]
+    yield 16, [word0(WAVE, modifier=9), 0]
 
 
 def fields():
@@ -172,17 +177,25 @@ def fields():
         for opcode in (0x00, 0x28, ATOMIC, CAS):
             yield 16, [word0(opcode, rd=1), second]
     yield 16, [word0(MOV_IMM, rs1=1), 0]
+    for modifier in (REDUCE_ADD, SHUFFLE, BALLOT):
+        for second in (word1(rs2=1), word1(rs2=255), word1(rs3=1), word1(rs4=1), word1(spare=1), word1(spare=32), word1(scope=1)):
+            yield 256, [word0(WAVE, rd=1, modifier=modifier), second]
+        for predicate in (0, 1, 2, 3):
+            yield 16, [word0(WAVE, modifier=modifier, predicate=predicate, negate=1), 0]
+        yield 16, [word0(WAVE, modifier=modifier, bit3=1), 0]
 
 
 def registers():
-    for opcode in sorted(CARRIED):
+    for opcode, modifier in sorted(CARRIED):
+        if modifier != 0 and opcode != WAVE:
+            continue
+        rd_is, rs1_is, second = CARRIED[opcode, modifier]
         for field in ('rd', 'rs1', 'rs2', 'rs3'):
-            second = CARRIED[opcode][3]
-            is_register = {'rd': CARRIED[opcode][1] == 'register', 'rs1': CARRIED[opcode][2] == 'register',
+            is_register = {'rd': rd_is == 'register', 'rs1': rs1_is == 'register',
                            'rs2': isinstance(second, tuple) and second[0], 'rs3': isinstance(second, tuple) and second[1]}[field]
             if is_register:
                 for count, at in ((1, 0), (1, 1), (16, 15), (16, 16), (256, 255)):
-                    yield count, instruction(opcode, **{field: at})
+                    yield count, instruction(opcode, modifier=modifier, **{field: at})
     for count in (1, 255):
         yield count, nop + instruction(0x00, rd=255) + nop
     yield 1, [word0(0x28, rd=3), 0]  # a comparison's RD is a predicate,

@@ -3,7 +3,7 @@
 use crate::operations::Operation;
 
 /// A register read as a signed number.
-fn signed(value: u32) -> i32 {
+pub fn signed(value: u32) -> i32 {
     value as i32
 }
 

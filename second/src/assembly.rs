@@ -4,6 +4,7 @@
 //! ADD r3, r1, r2             LT p1, r0, r1              NEG r1, r2
 //! MOV_SPECIAL r0, lane       MOV_IMM r0, 5              CAS r1, [r2], r3, r4 scope 2
 //! LOAD r1, [r2 + 8]          STORE [r2 + 8], r1         ATOMIC_ADD r1, [r2], r3
+//! REDUCE_ADD r1, r0          SHUFFLE r1, r0, r2         BALLOT r1, r0 on p1
 //! IF on not p1               BREAK on p1                ADD r3, r1, r2 on p2
 //! ```
 //!
@@ -35,9 +36,9 @@ pub fn print(i: &Instruction) -> String {
     let [rd, rs1, rs2, rs3] = [i.rd, i.rs1, i.rs2, i.rs3];
     let offset = numerals::print(i.number);
     let mut text = match i.operation.form() {
-        Form::TwoSources => format!("{name} r{rd}, r{rs1}, r{rs2}"),
+        Form::TwoSources | Form::Shuffle => format!("{name} r{rd}, r{rs1}, r{rs2}"),
         Form::Comparison => format!("{name} p{rd}, r{rs1}, r{rs2}"),
-        Form::OneSource => format!("{name} r{rd}, r{rs1}"),
+        Form::OneSource | Form::Wave => format!("{name} r{rd}, r{rs1}"),
         Form::Special => format!("{name} r{rd}, {}", SPECIALS[rs1 as usize]),
         Form::Immediate => format!("{name} r{rd}, {offset}"),
         Form::Memory if stores(i.operation) => format!("{name} [r{rs1} + {offset}], r{rd}"),
@@ -111,7 +112,9 @@ fn operands(i: &mut Instruction, tokens: &mut Tokens) -> Result<(), String> {
     }
     match i.operation.form() {
         Form::Memory => i.number = tokens.number("an offset")?,
-        Form::TwoSources | Form::Comparison | Form::Atomic => i.rs2 = tokens.register()?,
+        Form::TwoSources | Form::Comparison | Form::Atomic | Form::Shuffle => {
+            i.rs2 = tokens.register()?;
+        }
         Form::CompareAndSwap => {
             i.rs2 = tokens.register()?;
             i.rs3 = tokens.register()?;

@@ -74,11 +74,11 @@ pub struct Unreadable {
 impl Capture {
     /// Launches, or goes on with the state. The buffers change as the run changes them.
     pub fn run(&mut self) -> Answer {
-        self.run_watched(&mut |_| ())
+        self.run_watched(&mut |_, _| ())
     }
 
-    /// The same, showing `watch` the state before each instruction.
-    pub fn run_watched(&mut self, watch: &mut impl FnMut(&State)) -> Answer {
+    /// The same, showing `watch` the state and the registers before each instruction.
+    pub fn run_watched(&mut self, watch: &mut impl FnMut(&State, &[u32])) -> Answer {
         let mut lent = Lent {
             registers: &mut self.registers,
             device: &mut self.device,

@@ -21,4 +21,5 @@ pub mod run;
 pub mod state;
 pub mod step;
 pub mod text;
+pub mod wave;
 pub mod words;

@@ -12,7 +12,7 @@ second show FILE                 prints a capture file as readable text
 second replay FILE [OUT] [KEY]   replays a capture: a report, the end state, a fault's key
 second cases SEED COUNT          writes random cases; SEED is a number or new
 second cases named               writes the runs that have a name
-second cases stored              writes those, then 450 random cases of seed 123
+second cases stored              writes those, then 450 random cases of seed 45
 second names                     prints the numbers and names of the named runs
 second answers                   answers the cases on standard input
 second compare CASES ANSWERS     compares another program's answers with its own

@@ -19,8 +19,19 @@ pub enum Form {
     Atomic,
     /// Two words: RD, the address in RS1, expected in RS2, desired in RS3, a scope.
     CompareAndSwap,
+    /// Two words: RD, and RS1 of all executing lanes.
+    Wave,
+    /// Two words: RD, and RS1 of the lane whose number is in RS2.
+    Shuffle,
     /// One word without registers.
     Control,
+}
+
+impl Form {
+    /// Whether its operations are wave operations, whose results are made of several lanes' registers.
+    pub fn is_wave(self) -> bool {
+        matches!(self, Form::Wave | Form::Shuffle)
+    }
 }
 
 /// One table for the operations: variant, opcode times 16 plus modifier, form, name.
@@ -111,6 +122,15 @@ operations! {
     AtomicUmax 0x3C8 Atomic "ATOMIC_UMAX",
     AtomicXchg 0x3C9 Atomic "ATOMIC_XCHG",
     Cas 0x3D0 CompareAndSwap "CAS",
+    Broadcast 0x3E0 Wave "BROADCAST",
+    ReduceAdd 0x3E1 Wave "REDUCE_ADD",
+    ReduceMin 0x3E2 Wave "REDUCE_MIN",
+    ReduceMax 0x3E3 Wave "REDUCE_MAX",
+    PrefixSum 0x3E4 Wave "PREFIX_SUM",
+    Shuffle 0x3E5 Shuffle "SHUFFLE",
+    Ballot 0x3E6 Wave "BALLOT",
+    Any 0x3E7 Wave "ANY",
+    All 0x3E8 Wave "ALL",
     If 0x3F0 Control "IF",
     Else 0x3F1 Control "ELSE",
     Endif 0x3F2 Control "ENDIF",

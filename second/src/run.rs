@@ -43,16 +43,16 @@ pub struct Answer {
 /// Runs from a launch (no state) or goes on with a handed-in state.
 /// A launch that isn't refused fills local memory with zeros. A refusal changes nothing lent.
 pub fn run(settings: Settings, code: &[u32], state: Option<&State>, lent: &mut Lent) -> Answer {
-    run_watched(settings, code, state, lent, &mut |_| ())
+    run_watched(settings, code, state, lent, &mut |_, _| ())
 }
 
-/// The same, showing `watch` the state before each instruction, a faulting one too.
+/// The same, showing `watch` the state and the registers before each instruction, a faulting one too.
 pub fn run_watched(
     settings: Settings,
     code: &[u32],
     state: Option<&State>,
     lent: &mut Lent,
-    watch: &mut impl FnMut(&State),
+    watch: &mut impl FnMut(&State, &[u32]),
 ) -> Answer {
     if let Err(refusal) = check(settings, code, state, lent.registers.len()) {
         return Answer {
@@ -108,7 +108,7 @@ fn go(
     code: &[u32],
     mut state: State,
     lent: &mut Lent,
-    watch: &mut impl FnMut(&State),
+    watch: &mut impl FnMut(&State, &[u32]),
 ) -> Answer {
     let kernel = Kernel {
         code,
@@ -123,7 +123,7 @@ fn go(
         if steps == settings.budget {
             break Outcome::OutOfBudget;
         }
-        watch(&state);
+        watch(&state, lent.registers);
         match step::step(&kernel, &mut state, lent) {
             Ok(()) => steps += 1,
             Err(faults) => break Outcome::Fault(faults),

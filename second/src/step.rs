@@ -4,6 +4,7 @@ use crate::arithmetic;
 use crate::control;
 use crate::operations::{Form, Operation};
 use crate::state::{Lanes, State, each_lane};
+use crate::wave;
 use crate::words::{self, Instruction};
 
 /// What a run is lent and may change.
@@ -117,7 +118,7 @@ fn address_fault(address: u64, operation: Operation, lent: &Lent) -> Option<usiz
     }
 }
 
-/// Works out the results of all executing lanes, in rising order, and then writes them.
+/// Works out the results of all executing lanes, and then writes them.
 fn compute(
     instruction: &Instruction,
     executing: Lanes,
@@ -125,10 +126,12 @@ fn compute(
     state: &mut State,
     lent: &mut Lent,
 ) {
-    let mut results = [0; 32];
-    for lane in each_lane(executing) {
-        results[lane] = lane_result(instruction, lane, kernel, lent);
-    }
+    let results = match instruction.operation.form() {
+        Form::Wave | Form::Shuffle => wave::results(instruction, |register| {
+            executing_words(register, executing, kernel, lent)
+        }),
+        _ => lane_results(instruction, executing, kernel, lent),
+    };
     if instruction.operation.form() == Form::Comparison {
         let predicate = &mut state.predicates[instruction.rd as usize - 1];
         for lane in each_lane(executing) {
@@ -142,6 +145,29 @@ fn compute(
             lent.registers[place_of(kernel, lane, instruction.rd)] = results[lane];
         }
     }
+}
+
+/// A register of each executing lane.
+fn executing_words(register: u32, executing: Lanes, kernel: &Kernel, lent: &Lent) -> wave::Words {
+    let mut words = [None; 32];
+    for lane in each_lane(executing) {
+        words[lane] = Some(lent.registers[place_of(kernel, lane, register)]);
+    }
+    words
+}
+
+/// What each executing lane gets by its own registers, in rising order.
+fn lane_results(
+    instruction: &Instruction,
+    executing: Lanes,
+    kernel: &Kernel,
+    lent: &mut Lent,
+) -> [u32; 32] {
+    let mut results = [0; 32];
+    for lane in each_lane(executing) {
+        results[lane] = lane_result(instruction, lane, kernel, lent);
+    }
+    results
 }
 
 /// What one lane's register or predicate bit gets. A store or atomic changes its word of memory.
@@ -165,7 +191,9 @@ fn lane_result(instruction: &Instruction, lane: usize, kernel: &Kernel, lent: &m
         Form::Memory | Form::Atomic | Form::CompareAndSwap => {
             access(instruction, lane, kernel, lent)
         }
-        Form::Control => unreachable!("control has no lane results"),
+        Form::Wave | Form::Shuffle | Form::Control => {
+            unreachable!("{} isn't carried out lane by lane", operation.name())
+        }
     }
 }
 

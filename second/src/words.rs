@@ -50,9 +50,9 @@ impl Instruction {
     /// The register numbers it names.
     pub fn registers(&self) -> Vec<u32> {
         match self.operation.form() {
-            Form::TwoSources | Form::Atomic => vec![self.rd, self.rs1, self.rs2],
+            Form::TwoSources | Form::Atomic | Form::Shuffle => vec![self.rd, self.rs1, self.rs2],
             Form::Comparison => vec![self.rs1, self.rs2],
-            Form::OneSource | Form::Memory => vec![self.rd, self.rs1],
+            Form::OneSource | Form::Memory | Form::Wave => vec![self.rd, self.rs1],
             Form::Special | Form::Immediate => vec![self.rd],
             Form::CompareAndSwap => vec![self.rd, self.rs1, self.rs2, self.rs3],
             Form::Control => vec![],
@@ -87,7 +87,7 @@ fn fields(operation: Operation, word0: u32, word1: u32) -> Instruction {
     let only = |used: bool, field: u32| if used { field } else { 0 };
     let swap = form == Form::CompareAndSwap;
     let atomic = swap || form == Form::Atomic;
-    let two_sources = atomic || matches!(form, Form::TwoSources | Form::Comparison);
+    let two_sources = atomic || matches!(form, Form::TwoSources | Form::Comparison | Form::Shuffle);
     Instruction {
         operation,
         rd: only(form != Form::Control, word0 >> 16 & 255),

@@ -7,6 +7,7 @@ use std::path::{Path, PathBuf};
 
 use second::capture::Capture;
 use second::report;
+use second::run::Outcome;
 use second::text;
 
 fn samples() -> Vec<PathBuf> {
@@ -28,7 +29,7 @@ fn sample(name: &str) -> Capture {
 
 #[test]
 fn each_packed_sample_is_what_its_text_packs_to() {
-    assert!(samples().len() >= 9);
+    assert!(samples().len() >= 10);
     for path in samples() {
         let read = text::read(&fs::read_to_string(&path).expect("text")).expect("a capture");
         let capture = read.capture;
@@ -85,6 +86,17 @@ fn the_search_finds_each_key() {
         let expected = found.map_or(!0, |index| index as u32);
         assert_eq!(capture.device[48 + lane], expected);
     }
+}
+
+#[test]
+fn the_compaction_ends_where_there_is_a_word_more() {
+    let mut capture = sample("compaction.txt");
+    capture.device.push(0);
+    assert_eq!(capture.run().outcome, Outcome::Ended);
+    let samples = capture.device[..30].iter().copied();
+    let kept: Vec<u32> = samples.filter(|word| *word as i32 > 0).collect();
+    assert_eq!(capture.device[31], 13);
+    assert_eq!(capture.device[32..], kept);
 }
 
 /// The place and a word of the error for a changed file.

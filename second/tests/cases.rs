@@ -1,5 +1,7 @@
 //! The random cases: their format, what they reach, and what every run they make keeps to.
 
+use std::collections::BTreeSet;
+
 use second::assembly;
 use second::bench::decoded;
 use second::bytes;
@@ -12,8 +14,10 @@ use second::cases::reached::Reached;
 use second::cases::{Case, random::Random};
 use second::operations::Operation;
 use second::run::Outcome;
+use second::state::first_lanes;
+use second::step;
 use second::text;
-use second::words::Instruction;
+use second::words::{self, Instruction};
 
 fn cases(seed: u64, count: u64) -> Vec<Case> {
     (1..=count).map(|number| make::case(seed, number)).collect()
@@ -98,6 +102,31 @@ fn each_list_of_an_address_s_kinds_is_made() {
 }
 
 #[test]
+fn each_wave_operation_is_made_on_each_guard_in_some_lanes() {
+    let all = Operation::ALL;
+    let waves = all.iter().filter(|operation| operation.form().is_wave());
+    let first = 13 + 11 + 3 + all.len() as u64;
+    for seed in 0..100 {
+        for (number, operation) in (first..).zip(waves.clone()) {
+            let Case::Run { mut capture, .. } = make::case(seed, number) else {
+                panic!("a run, as case {number} of each seed")
+            };
+            let (code, lanes) = (capture.code.clone(), capture.settings.lanes);
+            let mut guards = BTreeSet::new();
+            capture.run_watched(&mut |state, _| {
+                let i = words::instruction_at(&code, state.place as usize);
+                let executing = step::executing_lanes(&i, state);
+                if i.operation == *operation && executing != 0 && executing != first_lanes(lanes) {
+                    guards.insert((i.predicate, i.negate));
+                }
+            });
+            let expected = [(0, false), (3, false), (3, true)];
+            assert_eq!(guards, expected.into(), "case {number} of seed {seed}");
+        }
+    }
+}
+
+#[test]
 fn the_first_difference_is_named() {
     let made = cases(14, 60);
     let reached = &mut Reached::default();
@@ -125,7 +154,7 @@ fn every_state_of_a_run_fits() {
     for mut capture in captures(15, 600) {
         let (code, lanes) = (capture.code.clone(), capture.settings.lanes);
         if code.len() < 1000 {
-            let answer = capture.run_watched(&mut |state| {
+            let answer = capture.run_watched(&mut |state, _| {
                 assert_eq!(state.misfit(&code, lanes), None);
             });
             if !matches!(answer.outcome, Outcome::Refused(_)) {

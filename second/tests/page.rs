@@ -1,5 +1,5 @@
 //! The page's marked table, T1 to T14, and its listing; T10 and T11 by page 02, which makes MULHI signed, and a
-//! sum of base and offset that reaches 2^32 a fault.
+//! sum of base and offset that reaches 2^32 a fault. The words of page 02's wave operations.
 
 mod common;
 
@@ -64,6 +64,31 @@ fn t1_to_t6() {
         },
     );
     assert_eq!(refused("3F000070"), (4, 0));
+}
+
+#[test]
+fn words_of_the_wave_operations() {
+    let plain = Instruction::plain;
+    both_ways(
+        "3E010010 00000000",
+        Instruction {
+            rd: 1,
+            ..plain(Operation::ReduceAdd)
+        },
+    );
+    both_ways(
+        "3E010050 01000000",
+        Instruction {
+            rd: 1,
+            rs2: 1,
+            ..plain(Operation::Shuffle)
+        },
+    );
+    assert_eq!(refused("3E000090"), (4, 0));
+    assert_eq!(refused("3E000090 00000000"), (4, 0));
+    assert_eq!(refused("3E010010"), (5, 0));
+    assert_eq!(refused("3E010010 01000000"), (6, 0));
+    assert_eq!(refused("3E010050 01000001"), (6, 0));
 }
 
 #[test]

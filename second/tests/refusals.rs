@@ -56,8 +56,9 @@ fn the_longest_code_is_run() {
 #[test]
 fn code_is_refused_instruction_by_instruction() {
     let refusal = |code: &str| desk(8, 1, 2, &format!("3F0000F0 {code}")).refusal(None);
-    assert_eq!(refusal("3E000000"), (4, 1), "no such opcode");
+    assert_eq!(refusal("3B000000"), (4, 1), "no such opcode");
     assert_eq!(refusal("3C0000A0 00000000"), (4, 1), "no such modifier");
+    assert_eq!(refusal("3E000090 00000000"), (4, 1), "no such modifier");
     assert_eq!(refusal("00000010 00000000"), (4, 1), "no modifier listed");
     assert_eq!(refusal("00020000"), (5, 1), "before 7");
     assert_eq!(refusal("00020008 00000000"), (6, 1), "before 7");
@@ -65,6 +66,8 @@ fn code_is_refused_instruction_by_instruction() {
     assert_eq!(refusal("00000200 00000000"), (7, 1), "RS1");
     assert_eq!(refusal("00000000 02000000"), (7, 1), "RS2");
     assert_eq!(refusal("3D000000 00020000"), (7, 1), "RS3");
+    assert_eq!(refusal("3E000050 02000000"), (7, 1), "SHUFFLE's RS2");
+    assert_eq!(refusal("3E000060 02000000"), (6, 1), "not 7");
     assert_eq!(
         refusal("28030000 00000000 F2000200 3F000010"),
         (8, 4),
@@ -93,9 +96,14 @@ fn stray_control_is_refused() {
 fn reading_one_instruction() {
     let read = |text: &str| words::read(&hex(text)).map(|(_, length)| length);
     assert_eq!(read(""), Err(at(5, 0)));
-    assert_eq!(read("3E000000"), Err(at(4, 0)));
+    assert_eq!(read("3B000000"), Err(at(4, 0)));
     assert_eq!(read("00000000"), Err(at(5, 0)));
     assert_eq!(read("00FFFF00 FF000000"), Ok(2));
+    for modifier in 0..16 {
+        let word = 0x3E000000 | modifier << 4;
+        let refusal = if modifier < 9 { 5 } else { 4 };
+        assert_eq!(words::read(&[word]), Err(at(refusal, 0)), "{word:08X}");
+    }
     for wrong in [
         "00000000 00000001",
         "00000000 00010000",
@@ -109,6 +117,14 @@ fn reading_one_instruction() {
         "F1000100 00000000",
         "3D000000 00000100",
         "3C000000 00010000",
+        "3E000010 01000000",
+        "3E000080 00010000",
+        "3E000050 00010000",
+        "3E000050 00000100",
+        "3E000050 00000004",
+        "3E000050 00000001",
+        "3E000014 00000000",
+        "3E000018 00000000",
         "3F000000",
         "3F000011",
         "3F010090",
@@ -118,6 +134,7 @@ fn reading_one_instruction() {
         assert_eq!(read(wrong), Err(at(6, 0)), "{wrong}");
     }
     assert_eq!(read("3D000000 00000003"), Ok(2));
+    assert_eq!(read("3EFFFF57 FF000000"), Ok(2));
     assert_eq!(read("3F000095"), Ok(1));
 }
 
@@ -139,7 +156,7 @@ fn writing_one_instruction() {
     let branch = Instruction::plain(If);
     assert_eq!(write(branch, 0), Err(at(12, 0)), "before 13");
     type Change = fn(&mut Instruction);
-    let changes: [(Operation, Change); 14] = [
+    let changes: [(Operation, Change); 16] = [
         (Add, |i| i.rd = 256),
         (Add, |i| i.rs1 = 256),
         (Add, |i| i.rs2 = 256),
@@ -154,6 +171,8 @@ fn writing_one_instruction() {
         (Halt, |i| i.rd = 1),
         (Cas, |i| i.scope = 4),
         (Load, |i| i.rs2 = 1),
+        (Ballot, |i| i.rs2 = 1),
+        (Shuffle, |i| i.scope = 1),
     ];
     for (operation, change) in changes {
         let mut bad = Instruction::plain(operation);

@@ -66,7 +66,7 @@ fn a_refusal_tells_the_instruction_at_its_place() {
 
 #[test]
 fn other_refusals_tell_none() {
-    assert_eq!(told("NOP\nword 0x3E000000\n", 9), None, "4");
+    assert_eq!(told("NOP\nword 0x3B000000\n", 9), None, "4");
     assert_eq!(told("NOP\nword 0x00010100\n", 9), None, "5");
     assert_eq!(told("NOP\nword 0x3F000004\n", 9), None, "6");
     assert_eq!(told("NOP\n", 1_000_000_001), None, "1");

@@ -187,6 +187,57 @@ fn the_highest_store_stays_and_atomics_see_lower_lanes() {
     assert_eq!(old, [10, 10, 11]);
 }
 
+/// A launch of four lanes at width 8 with registers of 0: its steps, and r0 and r1 of the lanes.
+fn four(code: &str) -> (u32, [u32; 4], [u32; 4]) {
+    let mut desk = desk(8, 4, 2, code);
+    let answer = desk.launch();
+    assert_eq!(answer.outcome, Outcome::Ended);
+    assert_eq!(desk.registers[8..], [0; 8], "lanes that weren't launched");
+    let register = |r| std::array::from_fn(|lane| desk.register(lane as u32, r));
+    (answer.steps, register(0), register(1))
+}
+
+#[test]
+fn wave_operations_of_the_lane_numbers() {
+    for (operation, r1) in [
+        ("3E010000 00000000", [0; 4]),
+        ("3E010010 00000000", [6; 4]),
+        ("3E010020 00000000", [0; 4]),
+        ("3E010030 00000000", [3; 4]),
+        ("3E010040 00000000", [0, 0, 1, 3]),
+        ("3E010050 00000000", [0, 1, 2, 3]),
+        ("3E010060 00000000", [0xE; 4]),
+        ("3E010070 00000000", [1; 4]),
+        ("3E010080 00000000", [0; 4]),
+    ] {
+        let code = format!("F2000000 {operation}");
+        assert_eq!(four(&code), (2, [0, 1, 2, 3], r1), "{operation}");
+    }
+    assert_eq!(four("3E010011 00000000"), (1, [0; 4], [0; 4]));
+}
+
+#[test]
+fn wave_operations_on_not_p1() {
+    let split = "F2000000 F1010000 00000002 2A010000 01000000";
+    for (operation, r1) in [
+        ("3E010045 00000000", [2, 2, 0, 2]),
+        ("3E010005 00000000", [2, 2, 0, 0]),
+    ] {
+        let code = format!("{split} {operation}");
+        assert_eq!(four(&code), (4, [0, 1, 2, 3], r1), "{operation}");
+    }
+}
+
+#[test]
+fn a_shuffle_of_the_lane_numbers() {
+    let turned = "F2000000 F1010000 00000003 01010100 00000000 3E000050 01000000";
+    assert_eq!(four(turned), (4, [3, 2, 1, 0], [3, 2, 1, 0]));
+    let moved = "F2000000 F1010000 00000002 00010100 00000000 3E000050 01000000";
+    assert_eq!(four(moved), (4, [2, 3, 0, 0], [2, 3, 4, 5]));
+    let far = "F2000000 F1010000 FFFFFFFF 3E000050 01000000";
+    assert_eq!(four(far), (3, [0; 4], [0xFFFFFFFF; 4]));
+}
+
 #[test]
 fn endif_does_not_wake_broken_lanes_nor_endloop_halted_ones() {
     let code = "F2000000 F1010000 00000001 3F000030 28010000 01000000 3F000001 3F000040

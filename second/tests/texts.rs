@@ -90,6 +90,10 @@ fn each_form_has_its_text() {
         "ATOMIC_ADD r1, [r2], r3",
         "ATOMIC_UMAX r255, [r255], r255 scope 3 on not p3",
         "CAS r1, [r2], r3, r4 scope 2",
+        "REDUCE_ADD r1, r0",
+        "PREFIX_SUM r255, r254 on not p3",
+        "SHUFFLE r1, r0, r2 on p1",
+        "ALL r0, r0",
         "IF on not p1",
         "BREAK on p1",
         "NOP",
@@ -113,9 +117,9 @@ fn largest(operation: Operation) -> Instruction {
     }
     match operation.form() {
         Form::Control => (),
-        Form::TwoSources => (i.rd, i.rs1, i.rs2) = (255, 255, 255),
+        Form::TwoSources | Form::Shuffle => (i.rd, i.rs1, i.rs2) = (255, 255, 255),
         Form::Comparison => (i.rd, i.rs1, i.rs2) = (3, 255, 255),
-        Form::OneSource => (i.rd, i.rs1) = (255, 255),
+        Form::OneSource | Form::Wave => (i.rd, i.rs1) = (255, 255),
         Form::Special => (i.rd, i.rs1) = (255, 2),
         Form::Immediate => (i.rd, i.number) = (255, !0),
         Form::Memory => (i.rd, i.rs1, i.number) = (255, 255, !0),
@@ -231,7 +235,7 @@ fn the_text_that_is_described_is_read() {
     let read = text::read(&block_after("## A capture's text")).expect("a capture");
     assert_eq!(
         read.capture.code,
-        [0xF2000000, 0xF1010000, 0xFFFFFFFF, 0x3E000000]
+        [0xF2000000, 0xF1010000, 0xFFFFFFFF, 0x3B000000]
     );
     assert_eq!(read.capture.registers[..6], [0, 5, 0, 16, 0, 0]);
     assert_eq!(read.capture.registers.len(), 16);
@@ -417,9 +421,9 @@ fn a_refusal_says_number_place_rule_and_line() {
 fn a_refusal_of_an_instruction_says_its_line() {
     let rules = [
         (
-            "NOP\nword 0x3E000000\n",
+            "NOP\nword 0x3B000000\n",
             "line 8: refused 4 at place 1, opcode not carried, or modifier not listed for it: \
-             expected the first word of an instruction, found 0x3E000000",
+             expected the first word of an instruction, found 0x3B000000",
         ),
         (
             "ADD r1, r1, r1\n# a comment\nword 0x00010100\n",

@@ -32,9 +32,10 @@ class Rules(unittest.TestCase):
 
     def test_opcodes(self):
         self.assertEqual(['refused by rule 4 at place 2: an opcode is not carried, or its modifier is not listed',
-                          'word 3E000000: opcode 3E is not carried'], told(4, 2, capture([*ADD, 0x3E000000])))
+                          'word 3B000000: opcode 3B is not carried'], told(4, 2, capture([*ADD, 0x3B000000])))
         for word, cause in ((0x3F000070, 'modifier 7 is not listed for opcode 3F, control'),
                             (0x3C0000A0, 'modifier 10 is not listed for opcode 3C, ATOMIC'),
+                            (0x3E000090, 'modifier 9 is not listed for opcode 3E, wave operation'),
                             (0x07000010, 'modifier 1 is not listed for opcode 07, NEG')):
             self.assertEqual([f'word {word:08X}: {cause}'], told(4, 0, capture([word]))[1:])
 
@@ -57,6 +58,10 @@ class Rules(unittest.TestCase):
             ([0x00000000, 0x00000400], 'RS4 is 4, not 0, and ADD does not use it'),
             ([0x3C000000, 0x00020003], 'RS3 is 2, not 0, and ATOMIC does not use it'),
             ([0x3D000000, 0x00000004], 'field 7:2 of the second word is 1, not 0, and CAS does not use it'),
+            ([0x3E010010, 0x01000000], 'RS2 is 1, not 0, and REDUCE_ADD does not use it'),
+            ([0x3E010050, 0x01020000], 'RS3 is 2, not 0, and SHUFFLE does not use it'),
+            ([0x3E010050, 0x01000001], 'scope is 1, not 0, and SHUFFLE does not use it'),
+            ([0x3E010084, 0x00000000], 'predicate 0 is negated'),
         )
         for code, cause in cases:
             self.assertEqual([f'word {code[0]:08X}: {cause}'], told(6, 0, capture(code))[1:])

@@ -147,7 +147,7 @@ class Refused(InFolder):
         cases = (
             (2, 0, capture([NOP] * 65537), 'the code has 65,537 words'),
             (3, 0, capture([], values=[0] * 15), '15 register words'),
-            (4, 1, capture([NOP, 0x3E000000]), 'word 3E000000: opcode 3E is not carried'),
+            (4, 1, capture([NOP, 0x3B000000]), 'word 3B000000: opcode 3B is not carried'),
             (5, 1, capture([NOP, 0xF1000000]), 'word F1000000 is the first of two'),
             (6, 1, capture([NOP, 0x3F000004]), 'word 3F000004: predicate 0 is negated'),
             (7, 1, capture([NOP, 0x00030100, 0x02000000]), 'a register number is too large'),

@@ -16,7 +16,8 @@ use Rattle.compute.specs.declared.Shape.{Shape}
 use Rattle.compute.specs.Registers.{slotIn, gatherOf}
 use Rattle.compute.specs.Memory.{addressesOf}
 use Rattle.compute.specs.Classes.{reached, reachFaults}
-use Rattle.compute.proofs.Lanewise.{getD-by-lane, getD-gather}
+use Rattle.lanes.proofs.Filling.{getD-by-lane}
+use Rattle.compute.proofs.Lanewise.{getD-gather}
 
 -- of a base and an offset
 pub address-at : (W : ℕ) (bases : List ℕ) (offset i : ℕ) → i < W → W ≤ widest → getD (addressesOf W bases offset) i 0 ≡ addressOf (getD bases i 0) offset

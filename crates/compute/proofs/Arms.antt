@@ -2,31 +2,35 @@
 use mathlib.Core.Path.{_≡_, refl, sym, ap, ap₂, _∙_}
 use mathlib.Core.Bool.{Bool, true, false, cond}
 use mathlib.Core.List.{List}
-use Prim.Native.Nat.{ℕ, _^_, _≤_, _<_}
+use Prim.Native.Nat.{ℕ, _^_, _≤_, _<_, min}
+use native.Mathlib.Nat.{min-eq-left}
 use lib.ListN.{length, getD}
 use Rattle.lanes.specs.Sets.{widest}
 use Rattle.instructions.specs.declared.instr.TwoOp.{TwoOp}
 use Rattle.instructions.specs.declared.instr.OneOp.{OneOp}
 use Rattle.instructions.specs.declared.instr.CompareOp.{CompareOp}
+use Rattle.instructions.specs.declared.instr.WaveOp.{WaveOp}
 use Rattle.instructions.specs.declared.instr.ControlOp.{ControlOp}
 use Rattle.instructions.specs.declared.instr.Space.{Space}
 use Rattle.instructions.specs.declared.instr.Op.{Op}
 use Rattle.instructions.specs.declared.instr.Instr.{Instr}
 use Rattle.arith.specs.Arith.{wordOf}
+use Rattle.across.specs.Across.{acrossOf, shuffleOf}
 use Rattle.faulting.specs.declared.faults.Faults.{Faults}
 use Rattle.faulting.specs.Kinds.{noFaults, clear}
 use Rattle.faulting.specs.Causes.{addressFault, kindsOf, addressFaults}
 use Rattle.faulting.proofs.FaultKinds.{no-kinds}
 use Rattle.compute.specs.declared.Shape.{Shape}
 use Rattle.compute.specs.declared.memory.Change.{Change}
-use Rattle.compute.specs.Registers.{byLane, gatherOf, writeLanes}
+use Rattle.lanes.specs.EachLane.{byLane}
+use Rattle.compute.specs.Registers.{gatherOf, writeLanes}
 use Rattle.compute.specs.Memory.{Memories, memories, memoryOf, changesOf, oldOf}
 use Rattle.compute.specs.Operands.{Lent, lent, operandsOf}
 use Rattle.compute.specs.Values.{specialOf, resultsOf, predicateOf, changed}
 use Rattle.compute.specs.Carrying.{Outcome, outcome, faultsOf, afterOf, unlessFault, havingRead}
 use Rattle.compute.specs.Lanewise.{twoLanes, compareLanes, oneLanes, loadLanes, opBy, desiredBy, changeTo}
 use Rattle.compute.specs.Classes.{Ready, Settled, dividingFaults, reached, reachFaults, Loads, storesOf, Stores}
-use Rattle.compute.proofs.Lanewise.{by-lane-same}
+use Rattle.lanes.proofs.Filling.{by-lane-same}
 use Rattle.compute.proofs.Settling.{settled-as, settled-within, settled-changed, settled-same}
 use Rattle.compute.proofs.Standing.{narrow}
 use Rattle.compute.proofs.Addressing.{address-at, faults-alone}
@@ -89,6 +93,19 @@ module _ (shape : Shape) (x : Instr) (t p : ℕ) (regs device local : List ℕ) 
   unfolding faultsOf afterOf resultsOf
   as-number e = rw e (unfaulted _)
 
+  -- the numbers of a gathered register
+  abbrev numberIn : List ℕ → ℕ → ℕ
+  numberIn l j = getD l j 0
+
+  as-wave : (o : WaveOp) → x .op ≡ Op.Wave o → outcome noFaults (left (write (byLane W (acrossOf o W t (numberIn bases)))) both) ≡ done
+  unfolding faultsOf afterOf resultsOf
+  as-wave o e = rw e (unfaulted _)
+
+  as-shuffle : x .op ≡ Op.Shuffle
+      → outcome noFaults (left (write (byLane W (shuffleOf W t (numberIn bases) (numberIn (gatherOf shape regs (x .rs2)))))) both) ≡ done
+  unfolding faultsOf afterOf resultsOf
+  as-shuffle e = rw e (unfaulted _)
+
   as-control : (o : ControlOp) → x .op ≡ Op.Control o → outcome noFaults before ≡ done
   unfolding faultsOf afterOf resultsOf
   as-control o e = rw e (unfaulted _)
@@ -141,8 +158,29 @@ module _ (shape : Shape) (x : Instr) (t p : ℕ) (regs device local : List ℕ) 
         → outcome r (lent p after device local) ≡ done
     arm-special y e g = wrote r f v after noFaults _ h e g ∙ as-special (y .is)
 
-    pub arm-number : Ready Op.Number shape x regs → f ≡ noFaults → v ≡ byLane W (λ i. x .number) → outcome r (lent p after device local) ≡ done
-    arm-number y e g = wrote r f v after noFaults _ h e g ∙ as-number (y .is)
+    -- the width of an instruction in shape is narrow
+    width-is : {o : Op} → Ready o shape x regs → min W widest ≡ W
+    width-is y = min-eq-left (narrow shape x regs (y .shaped))
+
+    pub arm-number : Ready Op.Number shape x regs → f ≡ noFaults → v ≡ byLane (min W widest) (λ i. x .number)
+        → outcome r (lent p after device local) ≡ done
+    arm-number y e g =
+        wrote r f v after noFaults _ h e (g ∙ ap (λ (n : ℕ). byLane n (λ i. x .number)) (width-is y)) ∙ as-number (y .is)
+
+    pub arm-wave : (o : WaveOp) → Ready (Op.Wave o) shape x regs → f ≡ noFaults → (a : List ℕ) → a ≡ bases
+        → v ≡ byLane (min W widest) (acrossOf o (min W widest) t (numberIn a)) → outcome r (lent p after device local) ≡ done
+    arm-wave o y e a read g =
+        wrote r f v after noFaults _ h e
+        (g ∙ ap₂ (λ (n : ℕ) (l : List ℕ). byLane n (acrossOf o n t (numberIn l))) (width-is y) read)
+        ∙ as-wave o (y .is)
+
+    pub arm-shuffle : Ready Op.Shuffle shape x regs → f ≡ noFaults → (a b : List ℕ) → a ≡ bases → b ≡ gatherOf shape regs (x .rs2)
+        → v ≡ byLane (min W widest) (shuffleOf (min W widest) t (numberIn a) (numberIn b)) → outcome r (lent p after device local) ≡ done
+    arm-shuffle y e a b read named g =
+        wrote r f v after noFaults _ h e
+        (g ∙ ap (λ (n : ℕ). byLane n (shuffleOf n t (numberIn a) (numberIn b))) (width-is y)
+        ∙ ap₂ (λ (l k : List ℕ). byLane W (shuffleOf W t (numberIn l) (numberIn k))) read named)
+        ∙ as-shuffle (y .is)
 
   pub arm-compare : (o : CompareOp) → x .op ≡ Op.Compare o → (r : Faults) (q : ℕ) (results : List ℕ) → r ≡ noFaults
       → results ≡ compareLanes o shape regs (x .rs1) (x .rs2) → q ≡ predicateOf W p t results → outcome r (lent q regs device local) ≡ done

@@ -43,6 +43,8 @@ regs-by P (Op.Load s) shape d t results regs p q = p refl
 regs-by P (Op.Store s) shape d t results regs p q = q
 regs-by P (Op.Atomic o) shape d t results regs p q = p refl
 regs-by P Op.Cas shape d t results regs p q = p refl
+regs-by P (Op.Wave o) shape d t results regs p q = p refl
+regs-by P Op.Shuffle shape d t results regs p q = p refl
 regs-by P (Op.Control o) shape d t results regs p q = q
 
 pub predicate-by : (P : ℕ → Type 0) (o : Op) (shape : Shape) (t : ℕ) (results : List ℕ) (p : ℕ)
@@ -56,6 +58,8 @@ predicate-by P (Op.Load s) shape t results p c q = q
 predicate-by P (Op.Store s) shape t results p c q = q
 predicate-by P (Op.Atomic o) shape t results p c q = q
 predicate-by P Op.Cas shape t results p c q = q
+predicate-by P (Op.Wave o) shape t results p c q = q
+predicate-by P Op.Shuffle shape t results p c q = q
 predicate-by P (Op.Control o) shape t results p c q = q
 
 pub memories-by : (P : Memories → Type 0) (o : Op) (W : ℕ) (x : Instr) (t : ℕ) (v : Operands) (y : Memories)
@@ -69,6 +73,8 @@ memories-by P (Op.Load s) W x t v y p q = q
 memories-by P (Op.Store s) W x t v y p q = p s _ _
 memories-by P (Op.Atomic o) W x t v y p q = p Space.Device _ _
 memories-by P Op.Cas W x t v y p q = p Space.Device _ _
+memories-by P (Op.Wave o) W x t v y p q = q
+memories-by P Op.Shuffle W x t v y p q = q
 memories-by P (Op.Control o) W x t v y p q = q
 
 -- a predicate after a comparison, bit by bit

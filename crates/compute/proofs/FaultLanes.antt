@@ -55,6 +55,8 @@ form-by (Op.Load s) x W t y a b = sum-form s W t (length (memoryOf s y)) (x .num
 form-by (Op.Store s) x W t y a b = sum-form s W t (length (memoryOf s y)) (x .number) a
 form-by (Op.Atomic o) x W t y a b = address-form Space.Device W t (length (y .device)) a
 form-by Op.Cas x W t y a b = address-form Space.Device W t (length (y .device)) a
+form-by (Op.Wave o) x W t y a b = unfaulted-form W t
+form-by Op.Shuffle x W t y a b = unfaulted-form W t
 form-by (Op.Control o) x W t y a b = unfaulted-form W t
 
 pub fault-form : (shape : Shape) (x : Instr) (t : ℕ) (m : Lent) → Form (carriedOf shape x t m .faults)

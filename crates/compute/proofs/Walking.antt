@@ -12,9 +12,9 @@ use Rattle.ground.proofs.Turns.{Turned, turned-none, turned-more, turned-idle, 
 use Rattle.lanes.specs.Sets.{widest, has, without, first, only, lowest}
 use Rattle.lanes.proofs.LowestLanes.{Waiting, waiting-all, Lowest, waiting-less, waiting-none}
 use Rattle.arith.specs.Arith.{wordOf}
-use Rattle.compute.specs.Registers.{byLane}
+use Rattle.lanes.specs.EachLane.{byLane}
 use Rattle.compute.specs.Memory.{wordAt, changeTurn, changesOf, oldOf}
-use Rattle.compute.proofs.Lanewise.{Filled, filled-none, filled-more, filled-idle, filled-all}
+use Rattle.lanes.proofs.Filling.{Filled, filled-none, filled-more, filled-idle, filled-all}
 
 -- the lanes below `next` have had their turns: what each found stands in `out`, and `rest` are the others of the set
 pub record Walked (W : ℕ) (at : List ℕ) (f : ℕ → ℕ → ℕ) (t : ℕ) (before memory out : List ℕ) (rest : ℕ) : Type 0 where

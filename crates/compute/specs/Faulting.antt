@@ -21,6 +21,8 @@ faultBy (Op.Load s) x y a b = sumFault s (length (memoryOf s y)) a (x .number)
 faultBy (Op.Store s) x y a b = sumFault s (length (memoryOf s y)) a (x .number)
 faultBy (Op.Atomic o) x y a b = addressFault Space.Device (length (y .device)) a
 faultBy Op.Cas x y a b = addressFault Space.Device (length (y .device)) a
+faultBy (Op.Wave o) x y a b = 0
+faultBy Op.Shuffle x y a b = 0
 faultBy (Op.Control o) x y a b = 0
 
 -- lane i's kind, of what it read

@@ -12,7 +12,8 @@ use Rattle.instructions.specs.declared.instr.Instr.{Instr}
 use Rattle.arith.specs.Arith.{twoOf, oneOf, compareOf, atomicOf, swapOf}
 use Rattle.compute.specs.declared.Shape.{Shape}
 use Rattle.compute.specs.declared.memory.Change.{Change}
-use Rattle.compute.specs.Registers.{byLane, gatherOf}
+use Rattle.lanes.specs.EachLane.{byLane}
+use Rattle.compute.specs.Registers.{gatherOf}
 use Rattle.compute.specs.Memory.{wordAt}
 
 -- an operation on the registers a and b

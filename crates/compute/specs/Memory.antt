@@ -7,7 +7,7 @@ use Rattle.ground.specs.Lists.{inOrder}
 use Rattle.lanes.specs.Sets.{has}
 use Rattle.instructions.specs.declared.instr.Space.{Space}
 use Rattle.arith.specs.Arith.{addressOf, wordOf}
-use Rattle.compute.specs.Registers.{byLane}
+use Rattle.lanes.specs.EachLane.{byLane}
 
 -- device and local memory
 pub record Memories : Type 0 where

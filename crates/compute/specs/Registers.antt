@@ -1,11 +1,11 @@
--- Where the registers stand; a number for each lane; reading a register of every lane, and the writer. Page 01, "One step".
+-- Where the registers stand; reading a register of every lane, and the writer. Page 01, "One step".
 use Prim.Native.Nat.{ℕ, _+_, _*_, _≤_, _<_}
 use mathlib.Core.Bool.{cond}
 use mathlib.Core.List.{List}
-use lib.Dec.{ltb}
 use lib.ListN.{length, getD, set}
-use Rattle.ground.specs.Lists.{tabulate, inOrder}
+use Rattle.ground.specs.Lists.{inOrder}
 use Rattle.lanes.specs.Sets.{widest, has}
+use Rattle.lanes.specs.EachLane.{byLane}
 use Rattle.compute.specs.declared.Shape.{Shape}
 
 -- where register r of lane i stands, of W lanes with R registers each
@@ -19,10 +19,6 @@ slotIn shape i r = slot (shape .width) (shape .registers) i r
 -- a lent buffer of registers, as the definitions read it: the registers of lane 0, then those of lane 1, ..
 abbrev pub lanesIn : Shape → List ℕ → List ℕ
 lanesIn shape l = l
-
--- f of each lane below W, and 0 for the others of the widest wave
-unfoldable pub byLane : ℕ → (ℕ → ℕ) → List ℕ
-byLane W f = tabulate widest (λ i. cond (ltb i W) (f i) 0)
 
 -- register r of every lane
 unfoldable pub gatherOf : Shape → List ℕ → ℕ → List ℕ

@@ -11,8 +11,10 @@ use Rattle.instructions.specs.declared.instr.Op.{Op}
 use Rattle.instructions.specs.declared.instr.Space.{Space}
 use Rattle.instructions.specs.declared.instr.Instr.{Instr}
 use Rattle.arith.specs.Arith.{twoOf, oneOf, compareOf, atomicOf, swapOf, addressOf, wordOf}
+use Rattle.across.specs.Across.{acrossOf, shuffleOf}
 use Rattle.compute.specs.declared.Shape.{Shape}
-use Rattle.compute.specs.Registers.{byLane, writeLanes}
+use Rattle.lanes.specs.EachLane.{byLane}
+use Rattle.compute.specs.Registers.{writeLanes}
 use Rattle.compute.specs.Memory.{Memories, memories, memoryOf, addressesOf, changesOf, oldOf}
 use Rattle.compute.specs.Operands.{Operands}
 
@@ -43,6 +45,8 @@ valueBy (Op.Load s) W x t y v i = getD (memoryOf s y) (wordOf (addressOf (getD (
 valueBy (Op.Store s) W x t y v i = 0
 valueBy (Op.Atomic o) W x t y v i = oldOf (v .a) (atomicTo o v) t (y .device) i
 valueBy Op.Cas W x t y v i = oldOf (v .a) (swapTo v) t (y .device) i
+valueBy (Op.Wave o) W x t y v i = acrossOf o W t (λ j. getD (v .a) j 0) i
+valueBy Op.Shuffle W x t y v i = shuffleOf W t (λ j. getD (v .a) j 0) (λ j. getD (v .b) j 0) i
 valueBy (Op.Control o) W x t y v i = 0
 
 -- every lane's result
@@ -64,6 +68,8 @@ targetBy (Op.Load s) = register
 targetBy (Op.Store s) = nothing
 targetBy (Op.Atomic o) = register
 targetBy Op.Cas = register
+targetBy (Op.Wave o) = register
+targetBy Op.Shuffle = register
 targetBy (Op.Control o) = nothing
 
 -- the registers afterwards
@@ -98,4 +104,6 @@ memoriesBy (Op.Load s) W x t v y = y
 memoriesBy (Op.Store s) W x t v y = changed s (changesOf W (addressesOf W (v .a) (x .number)) (storeTo v) t) y
 memoriesBy (Op.Atomic o) W x t v y = changed Space.Device (changesOf W (v .a) (atomicTo o v) t) y
 memoriesBy Op.Cas W x t v y = changed Space.Device (changesOf W (v .a) (swapTo v) t) y
+memoriesBy (Op.Wave o) W x t v y = y
+memoriesBy Op.Shuffle W x t v y = y
 memoriesBy (Op.Control o) W x t v y = y

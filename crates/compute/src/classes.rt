@@ -7,7 +7,6 @@ ghost use Rattle.compute.specs.Registers.{Stands, lanesIn, writeLanes};
 ghost use Rattle.compute.specs.Lanewise.{opBy, desiredBy};
 ghost use Rattle.compute.specs.Classes.{Ready, Carries, Settled, dividingFaults, Loads, Stores};
 use crate::Shape;
-use crate::constants::number_results;
 use crate::constants::special_results;
 use crate::memory::Change;
 use crate::memory::addresses;
@@ -18,6 +17,8 @@ use crate::one_operand::one_results;
 use crate::registers::gather;
 use crate::registers::write_lanes;
 use crate::two_operands::two_results;
+use across::shuffle_results;
+use across::wave_results;
 use faulting::addresses::address_faults;
 use faulting::divisors::divisor_faults;
 use faulting::faults::Faults;
@@ -27,6 +28,7 @@ use instructions::instr::Instr;
 use instructions::instr::OneOp;
 use instructions::instr::Space;
 use instructions::instr::TwoOp;
+use instructions::instr::WaveOp;
 use lanes::ByLane;
 use lanes::Lanes;
 
@@ -96,7 +98,30 @@ pub(crate) fn carry_number(x: Instr, t: Lanes, shape: Shape, regs: &mut [u32]) -
     ensures { λ r. ⌜ ((device local : List ℕ) → Carries shape x t (lanesIn shape (now (regs .entry))) device local r (lanesIn shape (now (regs .exit))) device local) ⌝ }
 {
     let faults = no_faults();
-    let value = number_results(x.number, shape.width);
+    let value = lanes::each(x.number, shape.width);
+    write_results(Results { value, faults }, t, x.rd, shape, regs)
+}
+
+// A wave operation but SHUFFLE, on RS1.
+pub(crate) fn carry_wave(op: WaveOp, x: Instr, t: Lanes, shape: Shape, regs: &mut [u32]) -> Faults
+    requires { ⌜ Ready (Op.Wave op) shape x (lanesIn shape (now regs)) ⌝ }
+    ensures { λ r. ⌜ ((device local : List ℕ) → Carries shape x t (lanesIn shape (now (regs .entry))) device local r (lanesIn shape (now (regs .exit))) device local) ⌝ }
+{
+    let faults = no_faults();
+    let numbers = gather(shape, regs, x.rs1);
+    let value = wave_results(op, &numbers, t, shape.width);
+    write_results(Results { value, faults }, t, x.rd, shape, regs)
+}
+
+// SHUFFLE: RS1 of the lane that RS2 names.
+pub(crate) fn carry_shuffle(x: Instr, t: Lanes, shape: Shape, regs: &mut [u32]) -> Faults
+    requires { ⌜ Ready Op.Shuffle shape x (lanesIn shape (now regs)) ⌝ }
+    ensures { λ r. ⌜ ((device local : List ℕ) → Carries shape x t (lanesIn shape (now (regs .entry))) device local r (lanesIn shape (now (regs .exit))) device local) ⌝ }
+{
+    let faults = no_faults();
+    let numbers = gather(shape, regs, x.rs1);
+    let named = gather(shape, regs, x.rs2);
+    let value = shuffle_results(&numbers, &named, t, shape.width);
     write_results(Results { value, faults }, t, x.rd, shape, regs)
 }
 

@@ -20,9 +20,11 @@ use crate::classes::carry_change;
 use crate::classes::carry_load;
 use crate::classes::carry_number;
 use crate::classes::carry_one;
+use crate::classes::carry_shuffle;
 use crate::classes::carry_special;
 use crate::classes::carry_store;
 use crate::classes::carry_two;
+use crate::classes::carry_wave;
 use crate::comparisons::compare_results;
 use crate::comparisons::predicate_after;
 use crate::memory::Change;
@@ -125,6 +127,8 @@ fn carry_class(
         Op::Store(space) => carry_store(space, x, t, shape, regs, device, local),
         Op::Atomic(o) => carry_change(Change::Atomic(o), x, t, shape, regs, device),
         Op::Cas => carry_change(Change::Swap, x, t, shape, regs, device),
+        Op::Wave(o) => carry_wave(o, x, t, shape, regs),
+        Op::Shuffle => carry_shuffle(x, t, shape, regs),
         Op::Control(_) => no_faults(),
     }
 }

@@ -14,7 +14,8 @@ use Rattle.nesting.specs.OpenAt as places
 use Rattle.control.specs.Control as control
 use Rattle.faulting.specs.Causes.{faultLanes}
 use Rattle.lanes.specs.declared.said.Block.{Block}
-use Rattle.compute.specs.Registers.{slot, byLane, gatherOf, writeLanes}
+use Rattle.lanes.specs.EachLane.{byLane}
+use Rattle.compute.specs.Registers.{slot, gatherOf, writeLanes}
 use Rattle.compute.specs.Memory.{changesOf}
 use Rattle.compute.specs.Values.{resultsOf, predicateOf}
 use Rattle.compute.specs.Carrying.{faultsOf, afterOf, carriedOf}

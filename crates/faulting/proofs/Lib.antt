@@ -1,6 +1,5 @@
 pub mod EveryKind
 pub mod FaultKinds
-pub mod Marking
 pub mod Wrapping
 pub mod Reaching
 pub mod KindsApart

@@ -10,12 +10,12 @@ use crate::faults::Faults;
 use crate::faults::KINDS;
 use crate::faults::from_lanes;
 use crate::faults::no_faults;
-use crate::widths::narrowed;
 use arith::sums::address;
 use arith::sums::sub;
 use instructions::instr::Space;
 use lanes::ByLane;
 use lanes::Lanes;
+use lanes::narrowed;
 
 // How many of a memory's words an address can name.
 fn nameable(words: usize) -> u32

@@ -8,9 +8,9 @@ ghost use Rattle.lanes.specs.Sets.{widest, has, setOf};
 ghost use Rattle.faulting.specs.Causes.{divisorFaults};
 use crate::faults::Faults;
 use crate::faults::of_divisors;
-use crate::widths::narrowed;
 use lanes::ByLane;
 use lanes::Lanes;
+use lanes::narrowed;
 
 // The lanes of `t` whose divisor is zero.
 fn zero_lanes(divisors: ByLane, t: Lanes, width: u32) -> Lanes

@@ -2,4 +2,3 @@
 pub mod addresses;
 pub mod divisors;
 pub mod faults;
-mod widths;

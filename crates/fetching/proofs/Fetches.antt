@@ -105,3 +105,5 @@ control-is (Op.Load s) o e = other o e
 control-is (Op.Store s) o e = other o e
 control-is (Op.Atomic a) o e = other o e
 control-is Op.Cas o e = other o e
+control-is (Op.Wave a) o e = other o e
+control-is Op.Shuffle o e = other o e

@@ -48,3 +48,5 @@ controlIn (Op.Load s) = ControlIn.Other
 controlIn (Op.Store s) = ControlIn.Other
 controlIn (Op.Atomic o) = ControlIn.Other
 controlIn Op.Cas = ControlIn.Other
+controlIn (Op.Wave o) = ControlIn.Other
+controlIn Op.Shuffle = ControlIn.Other

@@ -6,7 +6,8 @@ use instructions::instr::Guard;
 use instructions::instr::Instr;
 use instructions::instr::Op;
 use opcodes::table::FoundOp;
-use opcodes::table::memory_or_control_op;
+use opcodes::table::control_op;
+use opcodes::table::reaching_op;
 use opcodes::table::register_op;
 use words::reading::instr_in;
 use words::reading::word_at;
@@ -56,8 +57,11 @@ fn op_in(first: u32) -> FoundOp
 {
     let opcode = first / 0x1000000;
     let modifier = first / 16 % 16;
+    if opcode == 0x3F {
+        return control_op(modifier);
+    }
     if opcode / 16 == 3 {
-        return memory_or_control_op(opcode, modifier);
+        return reaching_op(opcode, modifier);
     }
     register_op(opcode, modifier)
 }
@@ -109,5 +113,7 @@ pub fn control_in(op: Op) -> ControlIn
         Op::Store(_) => ControlIn::Other,
         Op::Atomic(_) => ControlIn::Other,
         Op::Cas => ControlIn::Other,
+        Op::Wave(_) => ControlIn::Other,
+        Op::Shuffle => ControlIn::Other,
     }
 }

@@ -35,7 +35,7 @@ needOf ControlOp.Halt = Need.Any
 needOf ControlOp.Barrier = Need.Zero
 needOf ControlOp.Nop = Need.Zero
 
--- RD of a comparison names predicate 1 to 3; RS1 of MOV_SPECIAL is 0 to 2
+-- RD of a comparison names predicate 1 to 3; RS1 of MOV_SPECIAL is 0 to 2; of the wave operations SHUFFLE alone uses RS2
 abbrev pub limitsOf : Op → Limits
 limitsOf (Op.Two o) = form 0 anyRegister anyRegister Need.Any (Second.Registers anyRegister 0 0)
 limitsOf (Op.Compare o) = form 1 3 anyRegister Need.Any (Second.Registers anyRegister 0 0)
@@ -46,6 +46,8 @@ limitsOf (Op.Store s) = form 0 anyRegister anyRegister Need.Any Second.Number
 limitsOf Op.Number = form 0 anyRegister 0 Need.Any Second.Number
 limitsOf (Op.Atomic o) = form 0 anyRegister anyRegister Need.Any (Second.Registers anyRegister 0 anyScope)
 limitsOf Op.Cas = form 0 anyRegister anyRegister Need.Any (Second.Registers anyRegister anyRegister anyScope)
+limitsOf (Op.Wave o) = form 0 anyRegister anyRegister Need.Any (Second.Registers 0 0 0)
+limitsOf Op.Shuffle = form 0 anyRegister anyRegister Need.Any (Second.Registers anyRegister 0 0)
 limitsOf (Op.Control o) = form 0 0 0 (needOf o) Second.Nothing
 
 -- one word or two, by what the second is

@@ -22,6 +22,8 @@ registersOf (Op.Store s) = registers true true false false
 registersOf Op.Number = registers true false false false
 registersOf (Op.Atomic o) = registers true true true false
 registersOf Op.Cas = registers true true true true
+registersOf (Op.Wave o) = registers true true false false
+registersOf Op.Shuffle = registers true true true false
 registersOf (Op.Control o) = registers false false false false
 
 -- a field of an instruction that is a register is R or more

@@ -97,6 +97,14 @@ pub fn limits_of(op: Op) -> Limits
             Need::Any,
             Second::Registers(REGISTER, REGISTER, SCOPE),
         ),
+        Op::Wave(_) => form(0, REGISTER, REGISTER, Need::Any, Second::Registers(0, 0, 0)),
+        Op::Shuffle => form(
+            0,
+            REGISTER,
+            REGISTER,
+            Need::Any,
+            Second::Registers(REGISTER, 0, 0),
+        ),
         Op::Control(o) => form(0, 0, 0, need_of(o), Second::Nothing),
     }
 }

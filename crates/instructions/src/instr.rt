@@ -51,6 +51,18 @@ pub enum AtomicOp {
     Xchg,
 }
 
+// What a wave operation makes of RS1 of the executing lanes.
+pub enum WaveOp {
+    Broadcast,
+    ReduceAdd,
+    ReduceMin,
+    ReduceMax,
+    PrefixSum,
+    Ballot,
+    Any,
+    All,
+}
+
 // The control instructions.
 pub enum ControlOp {
     If,
@@ -71,7 +83,7 @@ pub enum Space {
     Local,
 }
 
-// What an opcode and a modifier name together.
+// What an opcode and a modifier name together. SHUFFLE is the wave operation that uses RS2.
 pub enum Op {
     Two(TwoOp),
     Compare(CompareOp),
@@ -82,6 +94,8 @@ pub enum Op {
     Store(Space),
     Atomic(AtomicOp),
     Cas,
+    Wave(WaveOp),
+    Shuffle,
     Control(ControlOp),
 }
 

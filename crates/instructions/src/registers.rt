@@ -38,6 +38,8 @@ pub fn registers_of(op: Op) -> Registers
         Op::Number => fields(true, false, false, false),
         Op::Atomic(_) => fields(true, true, true, false),
         Op::Cas => fields(true, true, true, true),
+        Op::Wave(_) => fields(true, true, false, false),
+        Op::Shuffle => fields(true, true, true, false),
         Op::Control(_) => fields(false, false, false, false),
     }
 }

@@ -1,10 +1,18 @@
 -- Each promise of the crate allows one answer.
 use mathlib.Core.Path.{_≡_, sym, _∙_}
 use mathlib.Core.Bool.{Bool, _&&_}
+use mathlib.Core.List.{List}
 use Prim.Native.Nat.{ℕ, min}
 use lib.Bits.{bitAnd, bitOr}
 use lib.Dec.{ltb}
 use Rattle.lanes.specs.Sets.{widest, has, without, first, only, lowest}
+use Rattle.lanes.specs.EachLane.{byLane}
+
+pub narrowed-once : (width r q : ℕ) → r ≡ min width widest → q ≡ min width widest → r ≡ q
+narrowed-once width r q a b = a ∙ sym b
+
+pub each-once : (number width : ℕ) (r q : List ℕ) → r ≡ byLane (min width widest) (λ i. number) → q ≡ byLane (min width widest) (λ i. number) → r ≡ q
+each-once number width r q a b = a ∙ sym b
 
 pub has-once : (set lane : ℕ) (r q : Bool) → r ≡ has set lane → q ≡ has set lane → r ≡ q
 has-once set lane r q a b = a ∙ sym b

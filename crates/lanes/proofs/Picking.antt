@@ -10,7 +10,7 @@ use lib.Bits.{bitAnd, bitOr}
 use lib.Dec.{eqb, ltb}
 use lib.Pow.{pow-pos}
 use borrow.Author.Tests.{lt-ltb, le-ltb, eq-eqb, ne-eqb}
-use Rattle.lanes.specs.Sets.{has, only, setOf}
+use Rattle.lanes.specs.Sets.{widest, has, only, setOf}
 use Rattle.lanes.proofs.Bits.{set-of-more}
 use Rattle.lanes.proofs.Members.{has-and, has-only, has-ext, has-zero, has-set-of}
 use Rattle.lanes.proofs.Masks.{shifted}
@@ -57,6 +57,12 @@ marked-none p = record { low = omega arith; made = refl }
 pub marked-more : {n : ℕ} {p : ℕ → Bool} {s i : ℕ} → Marked n p s i → i < n → (next mark : ℕ) → next ≡ bitOr s mark → mark ≡ only i (p i) → Marked n p next (i + 1)
 marked-more {n} {p} {s} {i} t b next mark e h =
     record { low = omega arith; made = e ∙ ap (bitOr s) h ∙ set-of-more i p s (p i) (t .made) refl }
+
+-- as the code marks it: by a test of its own, and below the widest wave's end
+pub picked-more : {n : ℕ} {p : ℕ → Bool} {s i : ℕ} → Marked n p s i → i < n → n ≤ widest → (q : Bool) (next mark : ℕ) → next ≡ bitOr s mark
+    → mark ≡ only i (q && ltb i widest) → q ≡ p i → Marked n p next (i + 1)
+picked-more {n} {p} {s} {i} h b w q next mark e m t =
+    marked-more h b next mark e (m ∙ ap (only i) (rw (lt-ltb i widest (omega arith), and-true) t))
 
 pub marked-all : {n : ℕ} {p : ℕ → Bool} {s i : ℕ} → Marked n p s i → n ≤ i → s ≡ setOf n p
 marked-all {n} {p} {s} {i} t b = let e : i ≡ n = omega (arith, t .low) in t .made ∙ ap (λ (k : ℕ). setOf k p) e

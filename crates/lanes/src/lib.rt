@@ -8,6 +8,7 @@ ghost use lib.Bits.{bitAnd, bitOr};
 ghost use lib.Dec.{ltb};
 ghost use Rattle.lanes.specs.Sets as sets;
 ghost use Rattle.lanes.specs.Sets.{widest};
+ghost use Rattle.lanes.specs.EachLane.{byLane};
 
 pub type Lanes = u32;
 
@@ -18,6 +19,28 @@ pub const EACH_LANE: usize = WIDEST as usize;
 
 // A number for each lane of the widest wave.
 pub type ByLane = [u32; EACH_LANE];
+
+// A width, or the widest wave's where it is larger: no set has a lane past that.
+pub fn narrowed(width: u32) -> u32
+    ensures { λ r. ⌜ r ≡ min width widest ⌝ }
+{
+    if width < WIDEST { width } else { WIDEST }
+}
+
+// `number` for each lane of a wave of this width, 0 for the others of the widest.
+pub fn each(number: u32, width: u32) -> ByLane
+    ensures { λ r. ⌜ r ≡ byLane (min width widest) (λ i. number) ⌝ }
+{
+    let end = narrowed(width);
+    let mut out = [0u32; EACH_LANE];
+    let mut i: u32 = 0;
+    while i < end {
+        let k = i as usize;
+        out[k] = number;
+        i += 1;
+    }
+    out
+}
 
 // Whether `lane` is in `set`. A lane past the widest wave is in no set.
 pub fn has(set: Lanes, lane: u32) -> bool

@@ -22,7 +22,8 @@ use Rattle.blocks.specs.Open.{inLoop}
 use Rattle.blocks.specs.Scan as blocks
 use Rattle.control.specs.Control as control
 use Rattle.faulting.specs.Causes.{faultLanes}
-use Rattle.compute.specs.Registers.{slot, byLane, gatherOf, writeLanes}
+use Rattle.lanes.specs.EachLane.{byLane}
+use Rattle.compute.specs.Registers.{slot, gatherOf, writeLanes}
 use Rattle.compute.specs.Memory.{changesOf}
 use Rattle.compute.specs.Values.{resultsOf, predicateOf}
 use Rattle.compute.specs.Carrying.{faultsOf, afterOf, carriedOf}

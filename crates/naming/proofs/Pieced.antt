@@ -71,6 +71,8 @@ arranged-whole (Op.Load x) f i s = simp (s .rd, s .rs1, s .number, append-assoc)
 arranged-whole (Op.Store x) f i s = simp (s .rd, s .rs1, s .number, append-assoc)
 arranged-whole (Op.Atomic o) f i s = simp (s .rd, s .rs1, s .rs2)
 arranged-whole Op.Cas f i s = simp (s .rd, s .rs1, s .rs2, s .rs3)
+arranged-whole (Op.Wave o) f i s = simp (s .rd, s .rs1)
+arranged-whole Op.Shuffle f i s = simp (s .rd, s .rs1, s .rs2)
 arranged-whole (Op.Control o) f i s = refl
 
 -- ---- the scope and the predicate

@@ -7,6 +7,7 @@ use mathlib.Core.Bool.{cond}
 use mathlib.Core.List.{List, [], _∷_, _++_}
 use lib.Dec.{eqb}
 use lib.ListN.{getD}
+use Rattle.instructions.specs.declared.instr.WaveOp.{WaveOp}
 use Rattle.instructions.specs.declared.instr.Op.{Op}
 use Rattle.instructions.specs.declared.instr.Instr.{Instr}
 use Rattle.naming.specs.declared.operands.Fields.{Fields}
@@ -35,6 +36,16 @@ piecesRoom = 120
 
 -- ---- the pieces of a name
 
+abbrev pub waveParts : WaveOp → List ℕ
+waveParts WaveOp.Broadcast = packed (ascii "BROAD") ∷ packed (ascii "CAST") ∷ []
+waveParts WaveOp.ReduceAdd = packed (ascii "REDUCE_") ∷ packed (ascii "ADD") ∷ []
+waveParts WaveOp.ReduceMin = packed (ascii "REDUCE_") ∷ packed (ascii "MIN") ∷ []
+waveParts WaveOp.ReduceMax = packed (ascii "REDUCE_") ∷ packed (ascii "MAX") ∷ []
+waveParts WaveOp.PrefixSum = packed (ascii "PREFIX_") ∷ packed (ascii "SUM") ∷ []
+waveParts WaveOp.Ballot = packed (ascii "BALLOT") ∷ 0 ∷ []
+waveParts WaveOp.Any = packed (ascii "ANY") ∷ 0 ∷ []
+waveParts WaveOp.All = packed (ascii "ALL") ∷ 0 ∷ []
+
 abbrev pub nameParts : Op → List ℕ
 nameParts (Op.Two o) = packed (twoName o) ∷ 0 ∷ []
 nameParts (Op.Compare o) = packed (compareName o) ∷ 0 ∷ []
@@ -45,6 +56,8 @@ nameParts (Op.Load s) = packed (spaceName s) ∷ packed (ascii "LOAD") ∷ []
 nameParts (Op.Store s) = packed (spaceName s) ∷ packed (ascii "STORE") ∷ []
 nameParts (Op.Atomic o) = packed (ascii "ATOMIC_") ∷ packed (atomicName o) ∷ []
 nameParts Op.Cas = packed (ascii "CAS") ∷ 0 ∷ []
+nameParts (Op.Wave o) = waveParts o
+nameParts Op.Shuffle = packed (ascii "SHUFFLE") ∷ 0 ∷ []
 nameParts (Op.Control o) = packed (controlName o) ∷ 0 ∷ []
 
 -- ---- the pieces of operands
@@ -75,4 +88,7 @@ arranged (Op.Atomic o) f =
     packed (ascii " r") ∷ f .rd ∷ packed (ascii ", [r") ∷ f .rs1 ∷ packed (ascii "], r") ∷ f .rs2 ∷ 0 ∷ 0 ∷ []
 arranged Op.Cas f =
     packed (ascii " r") ∷ f .rd ∷ packed (ascii ", [r") ∷ f .rs1 ∷ packed (ascii "], r") ∷ f .rs2 ∷ packed (ascii ", r") ∷ f .rs3 ∷ []
+arranged (Op.Wave o) f = packed (ascii " r") ∷ f .rd ∷ packed (ascii ", r") ∷ f .rs1 ∷ 0 ∷ 0 ∷ 0 ∷ 0 ∷ []
+arranged Op.Shuffle f =
+    packed (ascii " r") ∷ f .rd ∷ packed (ascii ", r") ∷ f .rs1 ∷ packed (ascii ", r") ∷ f .rs2 ∷ 0 ∷ 0 ∷ []
 arranged (Op.Control o) f = 0 ∷ 0 ∷ 0 ∷ 0 ∷ 0 ∷ 0 ∷ 0 ∷ 0 ∷ []

@@ -1,7 +1,7 @@
 // The names of operations, each in two pieces.
 ghost use mathlib.Core.Path.{_≡_};
 ghost use Rattle.texts.specs.Names.{twoName, compareName, oneName, spaceName, atomicName, controlName};
-ghost use Rattle.naming.specs.Pieces.{packed, nameParts};
+ghost use Rattle.naming.specs.Pieces.{packed, waveParts, nameParts};
 use instructions::instr::AtomicOp;
 use instructions::instr::CompareOp;
 use instructions::instr::ControlOp;
@@ -9,6 +9,7 @@ use instructions::instr::OneOp;
 use instructions::instr::Op;
 use instructions::instr::Space;
 use instructions::instr::TwoOp;
+use instructions::instr::WaveOp;
 
 // The name of an operation of two registers.
 fn two_name(op: TwoOp) -> u64
@@ -87,6 +88,22 @@ fn atomic_name(op: AtomicOp) -> u64
     }
 }
 
+// The name of a wave operation.
+fn wave_name(op: WaveOp) -> [u64; 2]
+    ensures { λ r. ⌜ r ≡ waveParts op ⌝ }
+{
+    match op {
+        WaveOp::Broadcast => [0x44414F5242, 0x54534143],
+        WaveOp::ReduceAdd => [0x5F454355444552, 0x444441],
+        WaveOp::ReduceMin => [0x5F454355444552, 0x4E494D],
+        WaveOp::ReduceMax => [0x5F454355444552, 0x58414D],
+        WaveOp::PrefixSum => [0x5F584946455250, 0x4D5553],
+        WaveOp::Ballot => [0x544F4C4C4142, 0],
+        WaveOp::Any => [0x594E41, 0],
+        WaveOp::All => [0x4C4C41, 0],
+    }
+}
+
 // The name of a control instruction.
 fn control_name(op: ControlOp) -> u64
     ensures { λ r. ⌜ r ≡ packed (controlName op) ⌝ }
@@ -119,6 +136,8 @@ pub(crate) fn name_of(op: Op) -> [u64; 2]
         Op::Store(s) => [space_name(s), 0x45524F5453],
         Op::Atomic(o) => [0x5F43494D4F5441, atomic_name(o)],
         Op::Cas => [0x534143, 0],
+        Op::Wave(o) => wave_name(o),
+        Op::Shuffle => [0x454C4646554853, 0],
         Op::Control(o) => [control_name(o), 0],
     }
 }

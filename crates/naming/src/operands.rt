@@ -135,6 +135,17 @@ pub(crate) fn operands_of(op: Op, f: Fields) -> [u64; 8]
             NEXT_REGISTER,
             f.rs3,
         ],
+        Op::Wave(_) => [REGISTER, f.rd, NEXT_REGISTER, f.rs1, 0, 0, 0, 0],
+        Op::Shuffle => [
+            REGISTER,
+            f.rd,
+            NEXT_REGISTER,
+            f.rs1,
+            NEXT_REGISTER,
+            f.rs2,
+            0,
+            0,
+        ],
         Op::Control(_) => [0, 0, 0, 0, 0, 0, 0, 0],
     }
 }

@@ -10,7 +10,7 @@ use borrow.Author.Tests.{eq-eqb, ne-eqb, eqb-true}
 use Rattle.ground.proofs.Bools.{and-left, and-right}
 use Rattle.instructions.specs.declared.instr.Op.{Op}
 use Rattle.opcodes.specs.declared.table.FoundOp.{FoundOp}
-use Rattle.opcodes.specs.Table.{opcodeOf, sums, bitwise, moves, accesses, inRegisters, memoryAndControl, find, has, opOf}
+use Rattle.opcodes.specs.Table.{opcodeOf, sums, bitwise, moves, accesses, inRegisters, reaching, controls, find, has, opOf}
 use Rattle.opcodes.specs.Named.{numbered}
 
 -- the opcodes of a list begin with the digit d
@@ -32,15 +32,19 @@ module _ (c m : ℕ) where
       rw (ne-eqb c (opcodeOf o) (λ e. n (ap (λ (k : ℕ). k / 16) e ∙ here)))
       (find-after d os ps (and-right (eqb (opcodeOf o / 16) d) (begin d os) b) n)
 
-  -- ---- the table in two
+  -- ---- the table in three
   pub of-registers : (c / 16 ≡ 3 → ⊥) → opOf c m ≡ find (has c m) inRegisters
-  of-registers n = find-before (has c m) inRegisters memoryAndControl (find-after 3 memoryAndControl [] refl n)
+  of-registers n = find-before (has c m) inRegisters (reaching ++ controls) (find-after 3 (reaching ++ controls) [] refl n)
 
-  pub of-memory-or-control : c / 16 ≡ 3 → opOf c m ≡ find (has c m) memoryAndControl
-  of-memory-or-control e =
-      find-after 0 sums (bitwise ++ (moves ++ memoryAndControl)) refl (λ z. omega arith)
-      ∙ find-after 2 bitwise (moves ++ memoryAndControl) refl (λ z. omega arith)
-      ∙ find-after 15 moves memoryAndControl refl (λ z. omega arith)
+  pub of-reaching : c / 16 ≡ 3 → (c ≡ 0x3F → ⊥) → opOf c m ≡ find (has c m) reaching
+  of-reaching e n =
+      find-after 0 sums (bitwise ++ (moves ++ (reaching ++ controls))) refl (λ z. omega arith)
+      ∙ find-after 2 bitwise (moves ++ (reaching ++ controls)) refl (λ z. omega arith)
+      ∙ find-after 15 moves (reaching ++ controls) refl (λ z. omega arith)
+      ∙ find-before (has c m) reaching controls (simp (ne-eqb c 0x3F n))
+
+  pub of-control : c ≡ 0x3F → opOf c m ≡ find (has 0x3F m) controls
+  of-control e = rw e refl
 
   -- ---- those of registers
   pub none-modified : (m ≡ 0 → ⊥) → find (has c m) inRegisters ≡ FoundOp.Missing
@@ -63,10 +67,10 @@ module _ (c m : ℕ) where
         find-after 0 sums (bitwise ++ moves) refl (λ z. omega arith) ∙ find-after 2 bitwise moves refl (λ z. omega arith)
         ∙ simp (eq-eqb m 0 plain, and-true)
 
-  -- ---- those of memory and control
-  module _ (control : c ≡ 0x3F → ⊥) (atomic : c ≡ 0x3C → ⊥) where
-    pub among-accesses : m ≡ 0 → find (has c m) memoryAndControl ≡ numbered opcodeOf accesses c
-    among-accesses e = simp (ne-eqb c 0x3C atomic, ne-eqb c 0x3F control, eq-eqb m 0 e, and-true)
+  -- ---- those that reach beyond registers
+  module _ (atomic : c ≡ 0x3C → ⊥) (wave : c ≡ 0x3E → ⊥) where
+    pub among-accesses : m ≡ 0 → find (has c m) reaching ≡ numbered opcodeOf accesses c
+    among-accesses e = simp (ne-eqb c 0x3C atomic, ne-eqb c 0x3E wave, eq-eqb m 0 e, and-true)
 
-    pub not-listed : (m ≡ 0 → ⊥) → find (has c m) memoryAndControl ≡ FoundOp.Missing
-    not-listed n = simp (ne-eqb c 0x3C atomic, ne-eqb c 0x3F control, ne-eqb m 0 n, and-false)
+    pub not-listed : (m ≡ 0 → ⊥) → find (has c m) reaching ≡ FoundOp.Missing
+    not-listed n = simp (ne-eqb c 0x3C atomic, ne-eqb c 0x3E wave, ne-eqb m 0 n, and-false)

@@ -6,6 +6,7 @@ use Rattle.instructions.specs.declared.instr.TwoOp.{TwoOp}
 use Rattle.instructions.specs.declared.instr.CompareOp.{CompareOp}
 use Rattle.instructions.specs.declared.instr.OneOp.{OneOp}
 use Rattle.instructions.specs.declared.instr.AtomicOp.{AtomicOp}
+use Rattle.instructions.specs.declared.instr.WaveOp.{WaveOp}
 use Rattle.instructions.specs.declared.instr.ControlOp.{ControlOp}
 use Rattle.instructions.specs.declared.instr.Space.{Space}
 use Rattle.instructions.specs.declared.instr.Op.{Op}
@@ -71,6 +72,16 @@ atomic AtomicOp.Umin = known tt tt refl
 atomic AtomicOp.Umax = known tt tt refl
 atomic AtomicOp.Xchg = known tt tt refl
 
+wave : (o : WaveOp) → Known (Op.Wave o)
+wave WaveOp.Broadcast = known tt tt refl
+wave WaveOp.ReduceAdd = known tt tt refl
+wave WaveOp.ReduceMin = known tt tt refl
+wave WaveOp.ReduceMax = known tt tt refl
+wave WaveOp.PrefixSum = known tt tt refl
+wave WaveOp.Ballot = known tt tt refl
+wave WaveOp.Any = known tt tt refl
+wave WaveOp.All = known tt tt refl
+
 control : (o : ControlOp) → Known (Op.Control o)
 control ControlOp.If = known tt tt refl
 control ControlOp.Else = known tt tt refl
@@ -93,4 +104,6 @@ table (Op.Load s) = load s
 table (Op.Store s) = store s
 table (Op.Atomic o) = atomic o
 table Op.Cas = known tt tt refl
+table (Op.Wave o) = wave o
+table Op.Shuffle = known tt tt refl
 table (Op.Control o) = control o

@@ -7,6 +7,7 @@ use Rattle.instructions.specs.declared.instr.TwoOp.{TwoOp}
 use Rattle.instructions.specs.declared.instr.CompareOp.{CompareOp}
 use Rattle.instructions.specs.declared.instr.OneOp.{OneOp}
 use Rattle.instructions.specs.declared.instr.AtomicOp.{AtomicOp}
+use Rattle.instructions.specs.declared.instr.WaveOp.{WaveOp}
 use Rattle.instructions.specs.declared.instr.ControlOp.{ControlOp}
 use Rattle.instructions.specs.declared.instr.Space.{Space}
 use Rattle.instructions.specs.declared.instr.Op.{Op}
@@ -67,6 +68,8 @@ opcodeOf (Op.Store s) = storeCode s
 opcodeOf Op.Number = 0xF1
 opcodeOf (Op.Atomic o) = 0x3C
 opcodeOf Op.Cas = 0x3D
+opcodeOf (Op.Wave o) = 0x3E
+opcodeOf Op.Shuffle = 0x3E
 opcodeOf (Op.Control o) = 0x3F
 
 -- the modifiers of ATOMIC
@@ -81,6 +84,17 @@ atomicModifier AtomicOp.Max = 6
 atomicModifier AtomicOp.Umin = 7
 atomicModifier AtomicOp.Umax = 8
 atomicModifier AtomicOp.Xchg = 9
+
+-- the modifiers of the wave operations but SHUFFLE
+abbrev pub waveModifier : WaveOp → ℕ
+waveModifier WaveOp.Broadcast = 0
+waveModifier WaveOp.ReduceAdd = 1
+waveModifier WaveOp.ReduceMin = 2
+waveModifier WaveOp.ReduceMax = 3
+waveModifier WaveOp.PrefixSum = 4
+waveModifier WaveOp.Ballot = 6
+waveModifier WaveOp.Any = 7
+waveModifier WaveOp.All = 8
 
 -- the modifiers of control
 abbrev pub controlModifier : ControlOp → ℕ
@@ -106,6 +120,8 @@ modifierOf (Op.Store s) = 0
 modifierOf Op.Number = 0
 modifierOf (Op.Atomic o) = atomicModifier o
 modifierOf Op.Cas = 0
+modifierOf (Op.Wave o) = waveModifier o
+modifierOf Op.Shuffle = 5
 modifierOf (Op.Control o) = controlModifier o
 
 -- the operations on numbers: 00 to 0F
@@ -137,7 +153,13 @@ atomics =
     ∷ Op.Atomic AtomicOp.Min ∷ Op.Atomic AtomicOp.Max ∷ Op.Atomic AtomicOp.Umin ∷ Op.Atomic AtomicOp.Umax
     ∷ Op.Atomic AtomicOp.Xchg ∷ []
 
--- those of control
+-- those across the wave
+abbrev pub crossings : List Op
+crossings =
+    Op.Wave WaveOp.Broadcast ∷ Op.Wave WaveOp.ReduceAdd ∷ Op.Wave WaveOp.ReduceMin ∷ Op.Wave WaveOp.ReduceMax ∷ Op.Wave WaveOp.PrefixSum
+    ∷ Op.Shuffle ∷ Op.Wave WaveOp.Ballot ∷ Op.Wave WaveOp.Any ∷ Op.Wave WaveOp.All ∷ []
+
+-- those of control: 3F
 abbrev pub controls : List Op
 controls =
     Op.Control ControlOp.If ∷ Op.Control ControlOp.Else ∷ Op.Control ControlOp.Endif ∷ Op.Control ControlOp.Loop
@@ -148,13 +170,13 @@ controls =
 abbrev pub inRegisters : List Op
 inRegisters = sums ++ (bitwise ++ moves)
 
--- those of memory and control: 30 to 3F
-abbrev pub memoryAndControl : List Op
-memoryAndControl = accesses ++ (atomics ++ controls)
+-- those that reach beyond a lane's own registers, to memory and to the other lanes: 30 to 3E
+abbrev pub reaching : List Op
+reaching = accesses ++ (atomics ++ crossings)
 
 -- the operations that are carried
 abbrev pub operations : List Op
-operations = inRegisters ++ memoryAndControl
+operations = inRegisters ++ (reaching ++ controls)
 
 -- the first operation of a list that passes a test
 abbrev pub find : (Op → Bool) → List Op → FoundOp

@@ -1,6 +1,6 @@
 // The table of operations: from an opcode and a modifier to the operation, and back.
 ghost use mathlib.Core.Path.{_≡_};
-ghost use Rattle.opcodes.specs.Table.{twoCode, compareCode, oneCode, loadCode, storeCode, opcodeOf, atomicModifier, controlModifier, modifierOf, sums, bitwise, moves, accesses, atomics, controls, inRegisters, memoryAndControl, find, has, opOf};
+ghost use Rattle.opcodes.specs.Table.{twoCode, compareCode, oneCode, loadCode, storeCode, opcodeOf, atomicModifier, waveModifier, controlModifier, modifierOf, sums, bitwise, moves, accesses, atomics, crossings, controls, inRegisters, reaching, find, has, opOf};
 ghost use Rattle.opcodes.specs.Named.{Named};
 use instructions::instr::AtomicOp;
 use instructions::instr::CompareOp;
@@ -9,6 +9,7 @@ use instructions::instr::OneOp;
 use instructions::instr::Op;
 use instructions::instr::Space;
 use instructions::instr::TwoOp;
+use instructions::instr::WaveOp;
 
 // What an opcode and a modifier name.
 pub enum FoundOp {
@@ -88,7 +89,7 @@ fn access_op(opcode: u32) -> FoundOp
     FoundOp::Carried(op)
 }
 
-// The operation of ATOMIC by its modifier. Each arm is the whole answer, as in `control_op`: put together after the match, it would go
+// The operation of ATOMIC by its modifier. Each arm is the whole answer, as in `named_control`: put together after the match, it would go
 // through memory at every step.
 fn atomic_op(modifier: u32) -> FoundOp
     ensures { λ r. ⌜ Named modifierOf atomics modifier r ⌝ }
@@ -108,8 +109,26 @@ fn atomic_op(modifier: u32) -> FoundOp
     }
 }
 
+// The wave operation by its modifier.
+fn wave_op(modifier: u32) -> FoundOp
+    ensures { λ r. ⌜ Named modifierOf crossings modifier r ⌝ }
+{
+    match modifier {
+        0 => FoundOp::Carried(Op::Wave(WaveOp::Broadcast)),
+        1 => FoundOp::Carried(Op::Wave(WaveOp::ReduceAdd)),
+        2 => FoundOp::Carried(Op::Wave(WaveOp::ReduceMin)),
+        3 => FoundOp::Carried(Op::Wave(WaveOp::ReduceMax)),
+        4 => FoundOp::Carried(Op::Wave(WaveOp::PrefixSum)),
+        5 => FoundOp::Carried(Op::Shuffle),
+        6 => FoundOp::Carried(Op::Wave(WaveOp::Ballot)),
+        7 => FoundOp::Carried(Op::Wave(WaveOp::Any)),
+        8 => FoundOp::Carried(Op::Wave(WaveOp::All)),
+        _ => FoundOp::Missing,
+    }
+}
+
 // The operation of control by its modifier.
-fn control_op(modifier: u32) -> FoundOp
+fn named_control(modifier: u32) -> FoundOp
     ensures { λ r. ⌜ Named modifierOf controls modifier r ⌝ }
 {
     match modifier {
@@ -143,15 +162,15 @@ pub fn register_op(opcode: u32, modifier: u32) -> FoundOp
     move_op(opcode)
 }
 
-// The operation of an opcode and a modifier among those of memory and control.
-pub fn memory_or_control_op(opcode: u32, modifier: u32) -> FoundOp
-    ensures { λ r. ⌜ r ≡ find (has opcode modifier) memoryAndControl ⌝ }
+// The operation of an opcode and a modifier among those that reach memory and the other lanes.
+pub fn reaching_op(opcode: u32, modifier: u32) -> FoundOp
+    ensures { λ r. ⌜ r ≡ find (has opcode modifier) reaching ⌝ }
 {
-    if opcode == 0x3F {
-        return control_op(modifier);
-    }
     if opcode == 0x3C {
         return atomic_op(modifier);
+    }
+    if opcode == 0x3E {
+        return wave_op(modifier);
     }
     if modifier == 0 {
         return access_op(opcode);
@@ -159,12 +178,22 @@ pub fn memory_or_control_op(opcode: u32, modifier: u32) -> FoundOp
     FoundOp::Missing
 }
 
+// The operation of control with this modifier.
+pub fn control_op(modifier: u32) -> FoundOp
+    ensures { λ r. ⌜ r ≡ find (has 0x3F modifier) controls ⌝ }
+{
+    named_control(modifier)
+}
+
 // The operation of an opcode and a modifier.
 pub fn op_of(opcode: u32, modifier: u32) -> FoundOp
     ensures { λ r. ⌜ r ≡ opOf opcode modifier ⌝ }
 {
+    if opcode == 0x3F {
+        return control_op(modifier);
+    }
     if opcode / 16 == 3 {
-        return memory_or_control_op(opcode, modifier);
+        return reaching_op(opcode, modifier);
     }
     register_op(opcode, modifier)
 }
@@ -252,6 +281,8 @@ pub fn opcode_of(op: Op) -> u32
         Op::Number => 0xF1,
         Op::Atomic(_) => 0x3C,
         Op::Cas => 0x3D,
+        Op::Wave(_) => 0x3E,
+        Op::Shuffle => 0x3E,
         Op::Control(_) => 0x3F,
     }
 }
@@ -271,6 +302,22 @@ fn atomic_modifier(op: AtomicOp) -> u32
         AtomicOp::Umin => 7,
         AtomicOp::Umax => 8,
         AtomicOp::Xchg => 9,
+    }
+}
+
+// The modifiers of the wave operations; SHUFFLE's is 5.
+fn wave_modifier(op: WaveOp) -> u32
+    ensures { λ r. ⌜ r ≡ waveModifier op ⌝ }
+{
+    match op {
+        WaveOp::Broadcast => 0,
+        WaveOp::ReduceAdd => 1,
+        WaveOp::ReduceMin => 2,
+        WaveOp::ReduceMax => 3,
+        WaveOp::PrefixSum => 4,
+        WaveOp::Ballot => 6,
+        WaveOp::Any => 7,
+        WaveOp::All => 8,
     }
 }
 
@@ -306,6 +353,8 @@ pub fn modifier_of(op: Op) -> u32
         Op::Number => 0,
         Op::Atomic(o) => atomic_modifier(o),
         Op::Cas => 0,
+        Op::Wave(o) => wave_modifier(o),
+        Op::Shuffle => 5,
         Op::Control(o) => control_modifier(o),
     }
 }

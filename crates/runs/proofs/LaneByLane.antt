@@ -31,7 +31,9 @@ use Rattle.compute.specs.Values.{storeTo, atomicTo, swapTo, valueBy, resultsOf,
 use Rattle.compute.specs.Carrying.{Outcome, inShape, faultsOf, afterOf, carriedOf}
 use Rattle.runs.specs.Results.{register, turnAt, workOf, foundBy, rdOf, rs1Of, rs2Of, rs3Of, reachOf}
 use Rattle.runs.specs.Results.{resultBy, resultOf, Highest, Changes, store, atomic, cas}
-use Rattle.compute.proofs.Lanewise.{getD-by-lane, getD-gather}
+use Rattle.lanes.proofs.Filling.{getD-by-lane}
+use Rattle.compute.proofs.Lanewise.{getD-gather}
+use Rattle.across.proofs.Reading.{reads-executing, shuffle-reads}
 use Rattle.compute.proofs.Writing.{written}
 use Rattle.compute.proofs.Standing.{narrow, stands-rd}
 use Rattle.compute.proofs.Carrying.{carried-in, after-by, has-predicate}
@@ -115,6 +117,11 @@ module _ (shape : Shape) (x : Instr) (t : ℕ) (m : Lent) (slim : shape .width �
   value-is Op.Cas i h e =
       same-old (gatherOf shape (m .regs) (x .rs1)) (rs1Of shape x (m .regs)) (swapTo (read Op.Cas)) (λ j old. swapOf old (rs2Of shape x (m .regs) j) (rs3Of shape x (m .regs) j))
       (λ j b. reg (x .rs1) j b) (λ j old b. rw (reg (x .rs2) j b, reg (x .rs3) j b) refl) (m .memories .device) i h e
+  value-is (Op.Wave o) i h e =
+      reads-executing o W t (λ j. getD (gatherOf shape (m .regs) (x .rs1)) j 0) (rs1Of shape x (m .regs)) (λ j b u. reg (x .rs1) j b) i (omega arith)
+  value-is Op.Shuffle i h e =
+      shuffle-reads W t (λ j. getD (gatherOf shape (m .regs) (x .rs1)) j 0) (rs1Of shape x (m .regs))
+      (λ j. getD (gatherOf shape (m .regs) (x .rs2)) j 0) (rs2Of shape x (m .regs)) (λ j b u. reg (x .rs1) j b) i (reg (x .rs2) i h)
   value-is (Op.Control o) i h e = refl
 
   result-at : (i : ℕ) → i < W → has t i ≡ true → getD (resultsOf shape x t (m .memories) (read (x .op))) i 0 ≡ resultOf shape x t m i
@@ -132,6 +139,8 @@ rd-register (Op.Load s) e = refl
 rd-register (Op.Store s) e = refl
 rd-register (Op.Atomic o) e = refl
 rd-register Op.Cas e = refl
+rd-register (Op.Wave o) e = refl
+rd-register Op.Shuffle e = refl
 rd-register (Op.Control o) e = absurd (let z : _≡_ {A = ℕ} 0 1 = cc in omega arith)
 
 -- a memory that an operation doesn't change
@@ -151,6 +160,8 @@ unchanged (Op.Atomic o) Space.Device W x t v y f = absurd (f atomic)
 unchanged (Op.Atomic o) Space.Local W x t v y f = refl
 unchanged Op.Cas Space.Device W x t v y f = absurd (f cas)
 unchanged Op.Cas Space.Local W x t v y f = refl
+unchanged (Op.Wave o) q W x t v y f = refl
+unchanged Op.Shuffle q W x t v y f = refl
 unchanged (Op.Control o) q W x t v y f = refl
 
 -- ---- THEOREMS, of an instruction x by the executing lanes t

@@ -10,4 +10,5 @@ pub mod Running
 pub mod Outcomes
 pub mod StepLanes
 pub mod LaneByLane
+pub mod OthersUnread
 pub mod Slices

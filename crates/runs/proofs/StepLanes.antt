@@ -63,6 +63,8 @@ names-predicate x (Op.Load q) e ok g = absurd (not-register g)
 names-predicate x (Op.Store q) e ok g = absurd (not-nothing g)
 names-predicate x (Op.Atomic o) e ok g = absurd (not-register g)
 names-predicate x Op.Cas e ok g = absurd (not-register g)
+names-predicate x (Op.Wave o) e ok g = absurd (not-register g)
+names-predicate x Op.Shuffle e ok g = absurd (not-register g)
 names-predicate x (Op.Control o) e ok g = absurd (not-nothing g)
 
 module _ (s : Settings) (f : Fetched) (m : Machine) where

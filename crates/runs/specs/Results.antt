@@ -12,6 +12,7 @@ use Rattle.instructions.specs.declared.instr.Space.{Space}
 use Rattle.instructions.specs.declared.instr.Op.{Op}
 use Rattle.instructions.specs.declared.instr.Instr.{Instr}
 use Rattle.arith.specs.Arith.{twoOf, oneOf, compareOf, atomicOf, swapOf, addressOf, wordOf}
+use Rattle.across.specs.Across.{acrossOf, shuffleOf}
 use Rattle.compute.specs.declared.Shape.{Shape}
 use Rattle.compute.specs.Registers.{slotIn}
 use Rattle.compute.specs.Memory.{memoryOf}
@@ -65,6 +66,8 @@ resultBy (Op.Atomic o) shape x t m i =
     foundBy (rs1Of shape x (m .regs)) (λ j old. atomicOf o old (rs2Of shape x (m .regs) j)) t (m .memories .device) i
 resultBy Op.Cas shape x t m i =
     foundBy (rs1Of shape x (m .regs)) (λ j old. swapOf old (rs2Of shape x (m .regs) j) (rs3Of shape x (m .regs) j)) t (m .memories .device) i
+resultBy (Op.Wave o) shape x t m i = acrossOf o (shape .width) t (rs1Of shape x (m .regs)) i
+resultBy Op.Shuffle shape x t m i = shuffleOf (shape .width) t (rs1Of shape x (m .regs)) (rs2Of shape x (m .regs)) i
 resultBy (Op.Control o) shape x t m i = 0
 
 abbrev pub resultOf : Shape → Instr → ℕ → Lent → ℕ → ℕ

@@ -11,6 +11,7 @@ use Rattle.instructions.specs.declared.instr.TwoOp.{TwoOp}
 use Rattle.instructions.specs.declared.instr.CompareOp.{CompareOp}
 use Rattle.instructions.specs.declared.instr.OneOp.{OneOp}
 use Rattle.instructions.specs.declared.instr.AtomicOp.{AtomicOp}
+use Rattle.instructions.specs.declared.instr.WaveOp.{WaveOp}
 use Rattle.instructions.specs.declared.instr.ControlOp.{ControlOp}
 use Rattle.instructions.specs.declared.instr.Space.{Space}
 use Rattle.instructions.specs.declared.instr.Op.{Op}
@@ -29,7 +30,8 @@ readings (t ∷ ts) = instrOf (ascii t) ∷ readings ts
 shown-lines :
     readings (
     "ADD r3, r1, r2" ∷ "LT p1, r0, r1" ∷ "NEG r1, r2" ∷ "MOV_SPECIAL r0, lane" ∷ "MOV_IMM r0, 5" ∷ "CAS r1, [r2], r3, r4 scope 2"
-    ∷ "LOAD r1, [r2 + 8]" ∷ "STORE [r2 + 8], r1" ∷ "ATOMIC_ADD r1, [r2], r3" ∷ "IF on not p1" ∷ "BREAK on p1" ∷ "ADD r3, r1, r2 on p2" ∷ []
+    ∷ "LOAD r1, [r2 + 8]" ∷ "STORE [r2 + 8], r1" ∷ "ATOMIC_ADD r1, [r2], r3" ∷ "REDUCE_ADD r1, r0" ∷ "SHUFFLE r1, r0, r2" ∷ "BALLOT r1, r0 on p1"
+    ∷ "IF on not p1" ∷ "BREAK on p1" ∷ "ADD r3, r1, r2 on p2" ∷ []
     )
     ≡ some (instr (Op.Two TwoOp.Add) (guarded 0 false) 3 1 2 0 0 0)
     ∷ some (instr (Op.Compare CompareOp.Lt) (guarded 0 false) 1 0 1 0 0 0)
@@ -40,6 +42,9 @@ shown-lines :
     ∷ some (instr (Op.Load Space.Device) (guarded 0 false) 1 2 0 0 0 8)
     ∷ some (instr (Op.Store Space.Device) (guarded 0 false) 1 2 0 0 0 8)
     ∷ some (instr (Op.Atomic AtomicOp.Add) (guarded 0 false) 1 2 3 0 0 0)
+    ∷ some (instr (Op.Wave WaveOp.ReduceAdd) (guarded 0 false) 1 0 0 0 0 0)
+    ∷ some (instr Op.Shuffle (guarded 0 false) 1 0 2 0 0 0)
+    ∷ some (instr (Op.Wave WaveOp.Ballot) (guarded 1 false) 1 0 0 0 0 0)
     ∷ some (instr (Op.Control ControlOp.If) (guarded 1 true) 0 0 0 0 0 0)
     ∷ some (instr (Op.Control ControlOp.Break) (guarded 1 false) 0 0 0 0 0 0)
     ∷ some (instr (Op.Two TwoOp.Add) (guarded 2 false) 3 1 2 0 0 0)

@@ -37,6 +37,8 @@ small (Op.Store s) = search needs
 small Op.Number = search needs
 small (Op.Atomic o) = search needs
 small Op.Cas = search needs
+small (Op.Wave o) = search needs
+small Op.Shuffle = search needs
 small (Op.Control o) = search needs
 
 pub record Fields (i : Instr) : Type 0 where

@@ -91,6 +91,8 @@ impl Wave<'_> {
             Form::Immediate => self.write(i, executing, |_, _| i.number),
             Form::Memory => self.memory(i, executing)?,
             Form::Atomic | Form::CompareAndSwap => self.atomic(i, executing)?,
+            Form::Wave => self.wave(i, executing),
+            Form::Shuffle => self.shuffle(i, executing),
         }
         state.place += i.operation.words() as u32;
         Ok(())
@@ -268,5 +270,70 @@ impl Wave<'_> {
              AtomicUmax AtomicXchg]
         );
         Ok(())
+    }
+
+    fn wave(&mut self, i: &Instruction, t: Lanes) {
+        use Operation::*;
+        let a = i.rs1 as usize;
+        let not_zero = |own: &[u32]| own[a] != 0;
+        let least = |a, b| arithmetic::two_sources(Min, a, b);
+        let largest = |a, b| arithmetic::two_sources(Max, a, b);
+        let result = match i.operation {
+            PrefixSum => return self.prefix_sums(i, t),
+            Broadcast => self.word_of(0, a, t),
+            ReduceAdd => self.reduce(a, t, 0, u32::wrapping_add),
+            ReduceMin => self.reduce(a, t, i32::MAX as u32, least),
+            ReduceMax => self.reduce(a, t, i32::MIN as u32, largest),
+            Ballot => self.lanes_where(t, not_zero),
+            Any => u32::from(self.lanes_where(t, not_zero) != 0),
+            _ => u32::from(self.lanes_where(t, not_zero) == t),
+        };
+        self.write(i, t, |_, _| result);
+    }
+
+    /// A register of a lane; 0 where the lane isn't executing or doesn't exist.
+    #[inline(always)]
+    fn word_of(&self, lane: u32, register: usize, t: Lanes) -> u32 {
+        match t.checked_shr(lane) {
+            Some(from) if from & 1 == 1 => self.registers[lane as usize * self.each + register],
+            _ => 0,
+        }
+    }
+
+    /// A register of all executing lanes, put together from a start.
+    #[inline(always)]
+    fn reduce(
+        &self,
+        register: usize,
+        t: Lanes,
+        start: u32,
+        together: impl Fn(u32, u32) -> u32,
+    ) -> u32 {
+        let mut found = start;
+        Self::each(self.launched, t, |lane| {
+            found = together(found, self.registers[lane * self.each + register]);
+        });
+        found
+    }
+
+    fn prefix_sums(&mut self, i: &Instruction, t: Lanes) {
+        let (a, rd, each) = (i.rs1 as usize, i.rd as usize, self.each);
+        let mut below = 0u32;
+        Self::each(self.launched, t, |lane| {
+            let own = &mut self.registers[lane * each..][..each];
+            let word = own[a];
+            own[rd] = below;
+            below = below.wrapping_add(word);
+        });
+    }
+
+    fn shuffle(&mut self, i: &Instruction, t: Lanes) {
+        let [a, b] = [i.rs1, i.rs2].map(|register| register as usize);
+        let mut results = [0; 32];
+        Self::each(self.launched, t, |lane| {
+            let from = self.registers[lane * self.each + b];
+            results[lane] = self.word_of(from, a, t);
+        });
+        self.write(i, t, |_, lane| results[lane]);
     }
 }

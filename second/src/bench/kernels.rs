@@ -33,7 +33,7 @@ const BEFORE: &str = "
 ";
 
 /// The kernels in the order of the table.
-pub const KERNELS: [Kernel; 9] = [
+pub const KERNELS: [Kernel; 10] = [
     Kernel {
         name: "no-op",
         body: "NOP",
@@ -102,6 +102,20 @@ pub const KERNELS: [Kernel; 9] = [
             CAS r9, [r15], r7, r3
         ",
         times: 16,
+    },
+    Kernel {
+        name: "wave",
+        body: "
+            XOR r6, r0, r3
+            SHUFFLE r7, r10, r6
+            ADD r10, r7, r0
+            REDUCE_ADD r8, r10
+            PREFIX_SUM r9, r10
+            REDUCE_MAX r11, r9
+            BALLOT r12, r5
+            BROADCAST r13, r8
+        ",
+        times: 8,
     },
     Kernel {
         name: "control",

@@ -131,8 +131,10 @@ fn text(instruction: &Instruction, room: usize, reached: &mut Reached) -> Answer
 }
 
 fn run(mut capture: Capture, key_room: usize, reached: &mut Reached) -> Answer {
-    let code = capture.code.clone();
-    let found = capture.run_watched(&mut |state| reached.step(&code, state));
+    let (settings, code) = (capture.settings, capture.code.clone());
+    let found = capture.run_watched(&mut |state, registers| {
+        reached.step(settings, &code, state, registers);
+    });
     reached.run(&capture, &found);
     let mut answer = Answer::default();
     let numbers = outcome_numbers(&found.outcome);

@@ -39,7 +39,7 @@ pub fn instruction(random: &mut Random, operation: Operation, registers: u32) ->
         (i.rd, i.rs1) = (register(), register());
     }
     match form {
-        Form::TwoSources | Form::Comparison | Form::Atomic => i.rs2 = register(),
+        Form::TwoSources | Form::Comparison | Form::Atomic | Form::Shuffle => i.rs2 = register(),
         Form::CompareAndSwap => (i.rs2, i.rs3) = (register(), register()),
         _ => (),
     }
@@ -110,10 +110,11 @@ impl<'a> Coder<'a> {
         self.items(items);
     }
 
-    /// Sets the predicates so that the lanes differ: some lower ones in p1, some higher ones in p2, one
-    /// in p3.
+    /// Sets the predicates so that the lanes differ, given two registers: some lower ones in p1, some higher ones in
+    /// p2, one in p3.
     pub fn part(&mut self, width: u32) {
-        let (lane, number) = (self.register(), self.register());
+        let lane = self.register();
+        let number = (lane + 1) % self.registers;
         self.emit(&Instruction {
             rd: lane,
             ..Instruction::plain(Operation::MovSpecial)
@@ -140,7 +141,7 @@ impl<'a> Coder<'a> {
                 0
             };
             let blocks = if self.depth < 6 { 9 } else { 0 };
-            let weights = [36, 26, 10, blocks, blocks, jumps, 2, 1 + inside, 3];
+            let weights = [36, 26, 10, blocks, blocks, jumps, 2, 1 + inside, 3, 18];
             match self.random.weighted(&weights) {
                 0 => self.computation(),
                 1 => self.access(),
@@ -153,7 +154,8 @@ impl<'a> Coder<'a> {
                 }
                 6 => self.some(Operation::Halt),
                 7 => self.plain(Operation::Barrier),
-                _ => self.plain(Operation::Nop),
+                8 => self.plain(Operation::Nop),
+                _ => self.wave(),
             }
         }
     }
@@ -244,6 +246,57 @@ impl<'a> Coder<'a> {
         });
     }
 
+    /// A wave operation; a SHUFFLE mostly after its RS2 got lane numbers.
+    fn wave(&mut self) {
+        let operation = self.any_of(Form::is_wave);
+        let instruction = instruction(self.random, operation, self.registers);
+        if operation == Operation::Shuffle && self.random.chance(80) {
+            self.lane_numbers(&instruction);
+        }
+        self.emit(&instruction);
+    }
+
+    /// Gives a SHUFFLE's RS2 one lane's number for all lanes, or another lane's for each; some are past the width.
+    fn lane_numbers(&mut self, shuffle: &Instruction) {
+        let (lane, other) = (shuffle.rs2, self.register());
+        let most = self.random.pick(&[4, 8, 16, 32, 40]);
+        let number = self.random.below(most) as u32;
+        if other == lane || self.random.chance(20) {
+            return self.immediate(lane, number);
+        }
+        self.emit(&Instruction {
+            rd: lane,
+            ..Instruction::plain(Operation::MovSpecial)
+        });
+        self.immediate(other, number);
+        let operation = self
+            .random
+            .pick(&[Operation::Add, Operation::Sub, Operation::Xor]);
+        self.emit(&Instruction {
+            rd: lane,
+            rs1: other,
+            rs2: lane,
+            ..Instruction::plain(operation)
+        });
+    }
+
+    /// A wave operation in every lane, in the lane of p3, in the others, and in each half of an IF.
+    pub fn guarded(&mut self, operation: Operation) {
+        for (predicate, negate) in [(0, false), (3, false), (3, true)] {
+            self.swept((operation, predicate, negate));
+        }
+        let negate = self.random.chance(50);
+        self.emit(&Instruction {
+            predicate: 3,
+            negate,
+            ..Instruction::plain(Operation::If)
+        });
+        self.swept((operation, 0, false));
+        self.plain(Operation::Else);
+        self.swept((operation, 0, false));
+        self.plain(Operation::Endif);
+    }
+
     /// Every instruction that isn't control, in random order, each once on every lane, once on a
     /// predicate and once on one negated, with addresses and divisors that don't fault.
     pub fn sweep(&mut self) {
@@ -265,6 +318,7 @@ impl<'a> Coder<'a> {
         match operation.form() {
             Form::Comparison => instruction.rd = 2 + self.random.below(2) as u32,
             Form::TwoSources if arithmetic::divides(operation) => self.divisor(&instruction),
+            Form::Shuffle => self.lane_numbers(&instruction),
             Form::Memory | Form::Atomic | Form::CompareAndSwap => {
                 self.near(&mut instruction);
                 let address = 4 * self.random.below(8) as u32;

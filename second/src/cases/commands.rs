@@ -14,7 +14,7 @@ use crate::commands::{Done, read_file, say, write_file};
 /// How many cases are handed to another program at once.
 const BATCH: u64 = 1000;
 /// The seed and the count of the random cases of the stored batch.
-const STORED: (u64, u64) = (123, 450);
+const STORED: (u64, u64) = (45, 450);
 
 /// The seed of a text: a number, or `new` for one from the clock. It is printed on standard error.
 fn seed(text: &str) -> Result<u64, String> {

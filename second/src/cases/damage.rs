@@ -162,7 +162,7 @@ fn far_register(random: &mut Random, registers: u32) -> Instruction {
     let far = random.pick(&[registers, registers + 1, 255]).min(255);
     match (random.below(4), operation.form()) {
         (0, form) if form != Form::Comparison => i.rd = far,
-        (1, Form::TwoSources | Form::Comparison | Form::Atomic) => i.rs2 = far,
+        (1, Form::TwoSources | Form::Comparison | Form::Atomic | Form::Shuffle) => i.rs2 = far,
         (2, Form::CompareAndSwap) => i.rs3 = far,
         (_, Form::Special | Form::Immediate) => i.rd = far,
         _ => i.rs1 = far,

@@ -38,6 +38,27 @@ pub fn sweep(random: &mut Random) -> Case {
     }
 }
 
+/// A launch that carries out a wave operation where every lane executes, where one does, and where the others do.
+/// At times the registers are all 0, or all the same number.
+pub fn wave(random: &mut Random, operation: Operation) -> Case {
+    let mut settings = settings(random);
+    settings.budget = 100;
+    settings.registers = settings.registers.max(4);
+    settings.lanes = settings.lanes.max(2);
+    let mut capture = capture(random, settings);
+    if random.chance(30) {
+        capture.registers.fill(random.pick(&[0, 0, 1, 0x80000000]));
+    }
+    let mut coder = Coder::new(random, settings.registers, 0, 0);
+    coder.part(settings.lanes);
+    coder.guarded(operation);
+    capture.code = coder.code;
+    Case::Run {
+        capture,
+        key_room: 0,
+    }
+}
+
 /// Code of 65,537 words, launched or resumed.
 pub fn too_long(random: &mut Random, resumed: bool) -> Case {
     let settings = settings(random);

@@ -37,7 +37,7 @@ pub fn case(seed: u64, number: u64) -> Case {
 }
 
 /// A fault for each list of an address's kinds, a key for each two of three sets that overlap, a text for each
-/// operation, then any case.
+/// operation, a run of each wave operation, then any case.
 fn one_of_each(random: &mut Random, index: usize) -> Case {
     let of_addresses = |kinds: &&[u32]| !kinds.contains(&4) && !kinds.contains(&5);
     let lists: Vec<&[u32]> = key::KINDS.into_iter().filter(of_addresses).collect();
@@ -48,8 +48,13 @@ fn one_of_each(random: &mut Random, index: usize) -> Case {
     if let Some(two) = pairs.get(index) {
         return directed::overlap(random, *two);
     }
-    match Operation::ALL.get(index - pairs.len()) {
-        Some(operation) => directed::text(random, *operation),
+    let (index, all) = (index - pairs.len(), Operation::ALL);
+    if let Some(operation) = all.get(index) {
+        return directed::text(random, *operation);
+    }
+    let mut waves = all.iter().filter(|operation| operation.form().is_wave());
+    match waves.nth(index - all.len()) {
+        Some(operation) => directed::wave(random, *operation),
         None => any(random),
     }
 }

@@ -49,6 +49,7 @@ pub mod named;
 pub mod random;
 pub mod reached;
 pub mod states;
+pub mod waves;
 
 use crate::capture::Capture;
 use crate::run::Outcome;

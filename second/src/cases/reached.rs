@@ -2,14 +2,15 @@
 
 use std::collections::BTreeMap;
 
+use super::waves;
 use crate::blocks::{self, DEEPEST, LOOP};
 use crate::capture::Capture;
 use crate::operations::Operation;
 use crate::refusal::Refusal;
-use crate::run::{Answer, Outcome};
-use crate::state::{Misfit, State};
+use crate::run::{Answer, Outcome, Settings};
+use crate::state::{Lanes, Misfit, State, first_lanes};
 use crate::step::{self, Faults};
-use crate::words::{self, Wrong};
+use crate::words::{self, Instruction, Wrong};
 
 /// The numbers 0 to 16 as labels; 0 stands for what isn't refused.
 const NUMBERS: [&str; 17] = [
@@ -37,7 +38,7 @@ const FAULT_KINDS: [&str; 13] = [
 ];
 
 /// The groups that have labels of their own.
-const LABELS: [(&str, &[&str]); 9] = [
+const LABELS: [(&str, &[&str]); 10] = [
     ("a launch answers", &["ended", "out of budget", "fault"]),
     (
         "a resumed run answers",
@@ -85,6 +86,7 @@ const LABELS: [(&str, &[&str]); 9] = [
             "depth 32",
         ],
     ),
+    ("a wave operation", &waves::LABELS),
     (
         "a run",
         &[
@@ -96,6 +98,23 @@ const LABELS: [(&str, &[&str]); 9] = [
         ],
     ),
 ];
+
+/// The groups of wave operations that some launched lanes execute and some don't: on every lane, on a predicate,
+/// and on one negated.
+const IN_SOME_LANES: [&str; 3] = [
+    "in some lanes",
+    "in some lanes, on a predicate",
+    "in some lanes, on a predicate negated",
+];
+
+/// The group of a wave operation in some lanes.
+fn in_some_lanes(instruction: &Instruction) -> &'static str {
+    match (instruction.predicate, instruction.negate) {
+        (0, _) => IN_SOME_LANES[0],
+        (_, false) => IN_SOME_LANES[1],
+        (_, true) => IN_SOME_LANES[2],
+    }
+}
 
 /// Counts by group and label.
 #[derive(Default)]
@@ -126,7 +145,7 @@ impl Reached {
     }
 
     /// Counts the step that a state is about to make.
-    pub fn step(&mut self, code: &[u32], state: &State) {
+    pub fn step(&mut self, settings: Settings, code: &[u32], state: &State, registers: &[u32]) {
         let instruction = words::instruction_at(code, state.place as usize);
         let executing = step::executing_lanes(&instruction, state);
         if executing == 0 {
@@ -139,11 +158,19 @@ impl Reached {
                 (_, true) => self.count("on a predicate negated", instruction.operation.name()),
             }
         }
+        if instruction.operation.form().is_wave() {
+            for label in waves::met(&instruction, executing, settings.width, registers) {
+                self.count("a wave operation", label);
+            }
+            if executing != 0 && executing != first_lanes(settings.lanes) {
+                self.count(in_some_lanes(&instruction), instruction.operation.name());
+            }
+        }
         self.control(instruction.operation, executing, state);
     }
 
     /// Counts what a control instruction is about to do.
-    fn control(&mut self, operation: Operation, executing: u32, state: &State) {
+    fn control(&mut self, operation: Operation, executing: Lanes, state: &State) {
         let innermost = state.blocks.last();
         match (operation, innermost) {
             (Operation::If, _) if executing != 0 && executing != state.active => {
@@ -290,6 +317,9 @@ impl Reached {
             if words::takes_predicate(*operation) {
                 all.push(("on a predicate", operation.name()));
                 all.push(("on a predicate negated", operation.name()));
+            }
+            if operation.form().is_wave() {
+                all.extend(IN_SOME_LANES.map(|group| (group, operation.name())));
             }
         }
         for (group, numbers) in REFUSALS {

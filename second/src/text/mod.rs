@@ -9,7 +9,7 @@
 //!
 //! code
 //!     MOV_SPECIAL r0, lane
-//!     word 0x3E000000       # a word that begins no instruction of the desk
+//!     word 0x3B000000       # a word that begins no instruction of the desk
 //!
 //! register words
 //!     lane 0     0 5        # what stands up to the next label are the registers of lane 0

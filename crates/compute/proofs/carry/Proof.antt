@@ -12,7 +12,7 @@ use Rattle.compute.proofs.carry.Tie as tie
 carry-class-requires : tie.Need-carry-class-requires
 carry-class-requires c κs =
     let m = c .before .before .before in
-    (m .before .before .before .before .pre, λ o e. absurd (miss (0 ∷ 2 ∷ 3 ∷ 4 ∷ 5 ∷ 6 ∷ 7 ∷ 8 ∷ 9 ∷ []) 1 tt (rw e at (m .match .keys2))))
+    (m .before .before .before .before .pre, λ o e. absurd (miss (0 ∷ 2 ∷ 3 ∷ 4 ∷ 5 ∷ 6 ∷ 7 ∷ 8 ∷ 9 ∷ 10 ∷ 11 ∷ []) 1 tt (rw e at (m .match .keys2))))
 
 returns : tie.Need-returns
 returns c = c .before .before .before .before .before .before .carry-class .ensures _

@@ -8,6 +8,7 @@ pub mod results;
 pub mod shortcuts;
 pub mod stopped;
 pub mod top;
+pub mod waves;
 
 use super::Case;
 use crate::capture::Capture;
@@ -34,6 +35,7 @@ pub fn all() -> Vec<Named> {
     [
         page::cases(),
         results::cases(),
+        waves::cases(),
         faults::cases(),
         top::cases(),
         shortcuts::cases(),

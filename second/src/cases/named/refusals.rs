@@ -66,15 +66,19 @@ fn after_three_words(name: &str, lines: &str) -> Named {
 fn words() -> Vec<Named> {
     let not_carried = [
         ("0C, no opcode", "word 0C000000"),
-        ("3E, a wave operation", "word 3E000000"),
         ("T6, control 7", "word 3F000070"),
         ("ADD with modifier 1", "word 00000010\nword 00000000"),
         ("ATOMIC with modifier 10", "word 3C0000A0\nword 00000000"),
+        ("3E with modifier 9, cut off", "word 3E000090"),
+        ("3E with modifier 9", "word 3E000090\nword 00000000"),
+        ("3E with modifier 15", "word 3E0000F0\nword 00000000"),
     ];
     let cut_off = [
         ("ADD", "word 00000000"),
         ("MOV_IMM", "word F1000000"),
         ("ATOMIC", "word 3C000000"),
+        ("REDUCE_ADD", "word 3E010010"),
+        ("SHUFFLE", "word 3E010050"),
     ];
     let not_carried = not_carried
         .map(|(name, lines)| after_three_words(&format!("refusal 4: {name}"), lines).refused(4, 3));
@@ -101,6 +105,19 @@ fn fields() -> Vec<Named> {
             "CAS with bit 2 of its second word",
             "word 3D000000\nword 00000004",
         ),
+        ("REDUCE_ADD with RS2 1", "word 3E010010\nword 01000000"),
+        ("ALL with RS2 255", "word 3E010080\nword FF000000"),
+        ("SHUFFLE with RS3 1", "word 3E010050\nword 01010000"),
+        ("BALLOT with RS4 1", "word 3E010060\nword 00000100"),
+        ("SHUFFLE with a scope", "word 3E010050\nword 01000001"),
+        (
+            "ANY with bit 7 of its second word",
+            "word 3E010070\nword 00000080",
+        ),
+        (
+            "BROADCAST on predicate 0 negated",
+            "word 3E010004\nword 00000000",
+        ),
         (
             "a comparison into predicate 0",
             "word 28000000\nword 00000000",
@@ -123,6 +140,9 @@ fn registers() -> Vec<Named> {
         ("RS2", "EQ p1, r0, r255"),
         ("RS3", "CAS r0, [r1], r1, r2"),
         ("a stored register", "STORE [r0 + 0], r2"),
+        ("BROADCAST's RD", "BROADCAST r2, r0"),
+        ("PREFIX_SUM's RS1", "PREFIX_SUM r0, r2"),
+        ("SHUFFLE's RS2", "SHUFFLE r0, r0, r2"),
     ];
     let refused = |(name, line): (&str, &str)| {
         after_three_words(&format!("refusal 7: {name} not below R"), line).refused(7, 3)
@@ -143,6 +163,17 @@ fn registers() -> Vec<Named> {
         .ends(2, 3)
         .register_after(0, &[1, 1]),
     );
+    cases.push(
+        launch(
+            "refusal 7: SHUFFLE's RS2 at R 1",
+            8,
+            2,
+            1,
+            "SHUFFLE r0, r0, r1",
+        )
+        .refused(7, 0),
+    );
+    cases.push(launch("a BALLOT at R 1", 8, 2, 1, "BALLOT r0, r0").ends(1, 2));
     cases
 }
 

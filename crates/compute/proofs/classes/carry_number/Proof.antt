@@ -1,7 +1,7 @@
 -- `compute::classes::carry_number` meets its contract: the writer was handed the results, and no fault.
 use mathlib.Core.Path.{refl}
 use borrow.Author.Needs.{needs}
-use Rattle.compute.proofs.Standing.{ready-narrow, ready-rd}
+use Rattle.compute.proofs.Standing.{ready-rd}
 use Rattle.compute.proofs.Arms.{arm-number}
 use Rattle.compute.proofs.classes.carry_number.Statement.{statement}
 use Rattle.compute.proofs.classes.carry_number.Tie as tie
@@ -13,9 +13,9 @@ returns c device local p =
     let z = v .before .before .before in
     let a = z .args in
     arm-number (a .shape) (a .x) (a .t) p (a .regs .now) device local _ _ _ _ (w .write-results .ensures) (z .pre) (v .before .no-faults .ensures)
-    (v .number-results .ensures)
+    (v .each .ensures)
 
 pub carry-number-spec : {M : Type 1} → statement M
 carry-number-spec = tie.close (tie.spec
-    (λ c κs. search needs) (λ c κs. ready-narrow (c .before .before .pre))
+    (λ c κs. search needs) (λ c κs. search needs)
     (λ c κs. ready-rd (c .before .before .before .before .pre) refl) (λ c. search needs) returns)

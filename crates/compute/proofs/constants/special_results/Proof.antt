@@ -6,7 +6,7 @@ use native.Mathlib.Omega.{arith}
 use lib.Dec.{eqb}
 use borrow.Author.Needs.{needs}
 use Rattle.compute.specs.Values.{specialOf}
-use Rattle.compute.proofs.Lanewise.{Filled, filled-none, filled-more, filled-all}
+use Rattle.lanes.proofs.Filling.{Filled, filled-none, filled-more, filled-all}
 use Rattle.compute.proofs.constants.special_results.Statement.{statement}
 use Rattle.compute.proofs.constants.special_results.Tie as tie
 

@@ -6,7 +6,8 @@ use borrow.Author.Needs.{needs}
 use Rattle.arith.specs.Arith.{addressOf}
 use Rattle.compute.specs.Registers.{gatherOf}
 use Rattle.compute.proofs.Slots.{slot-in}
-use Rattle.compute.proofs.Lanewise.{Filled, filled-none, filled-one, filled-all}
+use Rattle.lanes.proofs.Filling.{Filled, filled-none, filled-all}
+use Rattle.compute.proofs.Lanewise.{filled-one}
 use Rattle.compute.proofs.memory.addresses.Statement.{statement}
 use Rattle.compute.proofs.memory.addresses.Tie as tie
 

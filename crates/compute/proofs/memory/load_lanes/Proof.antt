@@ -4,7 +4,7 @@ use native.Mathlib.Omega.{arith}
 use borrow.Author.Needs.{needs}
 use Rattle.compute.specs.Memory.{wordAt}
 use Rattle.compute.specs.Lanewise.{loadLanes}
-use Rattle.compute.proofs.Lanewise.{Filled, filled-none, filled-more, filled-all}
+use Rattle.lanes.proofs.Filling.{Filled, filled-none, filled-more, filled-all}
 use Rattle.compute.proofs.memory.load_lanes.Statement.{statement}
 use Rattle.compute.proofs.memory.load_lanes.Tie as tie
 

@@ -7,7 +7,8 @@ use Rattle.arith.specs.Arith.{oneOf}
 use Rattle.compute.specs.Registers.{gatherOf}
 use Rattle.compute.specs.Lanewise.{oneLanes}
 use Rattle.compute.proofs.Slots.{slot-in}
-use Rattle.compute.proofs.Lanewise.{Filled, filled-none, filled-one, filled-all}
+use Rattle.lanes.proofs.Filling.{Filled, filled-none, filled-all}
+use Rattle.compute.proofs.Lanewise.{filled-one}
 use Rattle.compute.proofs.one_operand.one_lanes.Statement.{statement}
 use Rattle.compute.proofs.one_operand.one_lanes.Tie as tie
 

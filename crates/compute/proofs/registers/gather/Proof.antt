@@ -5,7 +5,7 @@ use native.Mathlib.Omega.{arith}
 use lib.ListN.{length, getD}
 use borrow.Author.Needs.{needs}
 use Rattle.compute.specs.Registers.{slotIn, gatherOf}
-use Rattle.compute.proofs.Lanewise.{Filled, filled-none, filled-more, filled-all}
+use Rattle.lanes.proofs.Filling.{Filled, filled-none, filled-more, filled-all}
 use Rattle.compute.proofs.Slots.{slot-in}
 use Rattle.compute.proofs.registers.gather.Statement.{statement}
 use Rattle.compute.proofs.registers.gather.Tie as tie

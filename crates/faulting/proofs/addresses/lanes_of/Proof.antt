@@ -8,9 +8,8 @@ use lib.Dec.{eqb}
 use lib.ListN.{getD}
 use borrow.Author.Needs.{needs}
 use Rattle.lanes.specs.Sets.{has}
-use Rattle.lanes.proofs.Picking.{Marked, marked-none, marked-all}
+use Rattle.lanes.proofs.Picking.{Marked, marked-none, picked-more, marked-all}
 use Rattle.faulting.specs.Causes.{sumFault, baseOf, faultLanes}
-use Rattle.faulting.proofs.Marking.{picked-more}
 use Rattle.faulting.proofs.addresses.lanes_of.Statement.{statement}
 use Rattle.faulting.proofs.addresses.lanes_of.Tie as tie
 

@@ -7,8 +7,7 @@ use lib.Dec.{eqb}
 use lib.ListN.{getD}
 use borrow.Author.Needs.{needs}
 use Rattle.lanes.specs.Sets.{has}
-use Rattle.lanes.proofs.Picking.{Marked, marked-none, marked-all}
-use Rattle.faulting.proofs.Marking.{picked-more}
+use Rattle.lanes.proofs.Picking.{Marked, marked-none, picked-more, marked-all}
 use Rattle.faulting.proofs.divisors.zero_lanes.Statement.{statement}
 use Rattle.faulting.proofs.divisors.zero_lanes.Tie as tie
 

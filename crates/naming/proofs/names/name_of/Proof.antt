@@ -35,11 +35,14 @@ returns-9 : tie.Need-returns-9
 returns-9 c = sym (ap nameParts (c .enum-told3 .given .1))
 
 returns-10 : tie.Need-returns-10
-returns-10 c = ap (λ (n : ℕ). n ∷ 0 ∷ []) (c .control-name .ensures) ∙ sym (ap nameParts (c .before .before .op7 .given .1))
+returns-10 c = c .wave-name .ensures ∙ sym (ap nameParts (c .before .before .op7 .given .1))
+
+returns-11 : tie.Need-returns-11
+returns-11 c = sym (ap nameParts (c .enum-told4 .given .1))
+
+returns-12 : tie.Need-returns-12
+returns-12 c = ap (λ (n : ℕ). n ∷ 0 ∷ []) (c .control-name .ensures) ∙ sym (ap nameParts (c .before .before .op8 .given .1))
 
 pub name-of-spec : {M : Type 1} → statement M
 name-of-spec = tie.close (tie.spec
-    (λ c. search needs) (λ c κs. search needs) (λ c. search needs) (λ c κs. search needs) (λ c. search needs) (λ c κs. search needs)
-    (λ c. search needs) (λ c. search needs) (λ c. search needs) (λ c κs. search needs) (λ c. search needs) (λ c κs. search needs)
-    (λ c. search needs) (λ c κs. search needs) (λ c. search needs) (λ c. search needs) (λ c κs. search needs) returns returns-2 returns-3
-    returns-4 returns-5 returns-6 returns-7 returns-8 returns-9 returns-10)
+    (λ c. search needs) (λ c κs. search needs) (λ c. search needs) (λ c κs. search needs) (λ c. search needs) (λ c κs. search needs) (λ c. search needs) (λ c. search needs) (λ c. search needs) (λ c κs. search needs) (λ c. search needs) (λ c κs. search needs) (λ c. search needs) (λ c κs. search needs) (λ c. search needs) (λ c. search needs) (λ c κs. search needs) (λ c. search needs) (λ c. search needs) (λ c κs. search needs) returns returns-2 returns-3 returns-4 returns-5 returns-6 returns-7 returns-8 returns-9 returns-10 returns-11 returns-12)
