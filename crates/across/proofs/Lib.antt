@@ -2,5 +2,6 @@ pub mod Reading
 pub mod Folding
 pub mod Voting
 pub mod Spreading
-pub mod Meaning
+pub mod Summing
+pub mod Ranking
 pub mod OneAnswer

@@ -1,118 +1,19 @@
--- What the wave operations give, said of the lanes one by one.
+-- The lowest number is one of the executing lanes' numbers, where a lane executes, and none is lower; and so of the highest.
 use mathlib.Core.Path.{_≡_, refl, sym, ap, _∙_}
-use mathlib.Core.Bool.{Bool, true, false, not, _&&_, cond}
-use mathlib.Core.Logic.{_⊎_, _↔_, inl, inr, ⊎-elim, dite}
-use Prim.Native.Nat.{ℕ, zero, suc, _+_, _%_, _^_, _≤_, _<_}
+use mathlib.Core.Bool.{Bool, true, false}
+use mathlib.Core.Logic.{_⊎_, inl, inr, ⊎-elim, dite}
+use Prim.Native.Nat.{ℕ, zero, suc, _^_, _≤_, _<_}
 use native.Mathlib.Decide.{decLt, ℕ-discrete}
 use native.Mathlib.Omega.{arith}
-use lib.Dec.{eqb, ltb}
-use borrow.Author.Tests.{lt-ltb, eqb-true, eq-eqb, ne-eqb}
 use Rattle.ground.proofs.Bools.{never}
 use Rattle.ground.proofs.Numbers.{cond-lt}
-use Rattle.lanes.specs.Sets.{has, setOf}
-use Rattle.lanes.proofs.Bits.{set-of-lt}
-use Rattle.lanes.proofs.Members.{has-zero, has-set-of}
-use Rattle.lanes.proofs.Picking.{set-of-none}
+use Rattle.lanes.specs.Sets.{has}
 use Rattle.instructions.specs.declared.instr.TwoOp.{TwoOp}
 use Rattle.instructions.specs.declared.instr.WaveOp.{WaveOp}
-use Rattle.arith.specs.Arith.{less, wrapped, twoOf}
+use Rattle.arith.specs.Arith.{less, twoOf}
 use Rattle.arith.proofs.Ordering.{rank, less-yes, less-no, min-low, min-one, max-high, max-one}
 use Rattle.arith.proofs.Bounds.{two-lt}
-use Rattle.across.specs.Across.{brought, foldBelow, sumBelow, greatest, least, lowestOf, highestOf, nonzero, zeros, acrossOf}
-
--- ---- sums
-
--- the plain sum of the executing lanes below n
-unfoldable pub plainSum : ℕ → (ℕ → ℕ) → ℕ → ℕ
-plainSum t f zero = 0
-plainSum t f (suc n) = plainSum t f n + brought 0 t f n
-
--- A SUM is the plain sum, wrapped
-pub sum-wraps : (t : ℕ) (f : ℕ → ℕ) (n : ℕ) → sumBelow t f n ≡ wrapped (plainSum t f n)
-unfolding foldBelow plainSum
-sum-wraps t f zero = refl
-sum-wraps t f (suc n) =
-    let sum : ℕ = plainSum t f n in
-    let own : ℕ = brought 0 t f n in
-    let turn : (sum % 2 ^ 32 + own) % 2 ^ 32 ≡ (sum + own) % 2 ^ 32 = omega arith in
-    ap (λ (k : ℕ). wrapped (k + own)) (sum-wraps t f n) ∙ turn
-
--- REDUCE_ADD is the last lane's PREFIX_SUM and what that lane brings
-pub total-last : (W t : ℕ) (f : ℕ → ℕ) (i : ℕ) → suc i ≡ W
-    → acrossOf WaveOp.ReduceAdd W t f i ≡ twoOf TwoOp.Add (acrossOf WaveOp.PrefixSum W t f i) (brought 0 t f i)
-unfolding foldBelow
-total-last W t f i e = rw (← e) refl
-
--- ---- votes
-
--- a set of the lanes that p picks is none exactly if p picks none
-none-picked : (W : ℕ) (p : ℕ → Bool) → setOf W p ≡ 0 → (j : ℕ) → j < W → p j ≡ false
-none-picked W p e j b = rw (lt-ltb j W b) at (sym (has-set-of W p j) ∙ ap (λ (s : ℕ). has s j) e ∙ has-zero j)
-
-module _ (W t : ℕ) (f : ℕ → ℕ) where
-  -- BALLOT has lane j exactly if it is a lane, executes and has a number other than 0
-  pub ballot-has : (i j : ℕ) → has (acrossOf WaveOp.Ballot W t f i) j ≡ (ltb j W && (has t j && not (eqb (f j) 0)))
-  unfolding nonzero
-  ballot-has i j = has-set-of W (λ k. has t k && not (eqb (f k) 0)) j
-
-  -- its bits past W are 0
-  pub ballot-below : (i : ℕ) → acrossOf WaveOp.Ballot W t f i < 2 ^ W
-  unfolding nonzero
-  ballot-below i = set-of-lt W (λ k. has t k && not (eqb (f k) 0))
-
-  -- ANY is 0 exactly if the number of every executing lane is 0
-  pub any-none : (i : ℕ) → (acrossOf WaveOp.Any W t f i ≡ 0) ↔ ((j : ℕ) → j < W → has t j ≡ true → f j ≡ 0)
-  unfolding nonzero
-  any-none i = (forth, back)
-    where
-      told : (s : ℕ) → _≡_ {A = ℕ} (cond (eqb s 0) 0 1) 0 → s ≡ 0
-      told s e =
-          elim (ℕ-discrete s 0) [
-            | yes z ↦ z
-            | no z ↦ let one : _≡_ {A = ℕ} 1 0 = rw (ne-eqb s 0 z) at e in absurd (omega arith)
-          ]
-
-      zero-of : (b c : Bool) → b ≡ true → (b && not c) ≡ false → c ≡ true
-      zero-of true true e h = refl
-      zero-of true false e h = never (sym h)
-      zero-of false c e h = never e
-
-      forth : acrossOf WaveOp.Any W t f i ≡ 0 → (j : ℕ) → j < W → has t j ≡ true → f j ≡ 0
-      forth e j b h = eqb-true (f j) 0 (zero-of (has t j) (eqb (f j) 0) h (none-picked W (λ k. has t k && not (eqb (f k) 0)) (told _ e) j b))
-
-      unpicked : (b c : Bool) → (b ≡ true → c ≡ true) → (b && not c) ≡ false
-      unpicked true c h = rw (h refl) refl
-      unpicked false c h = refl
-
-      back : ((j : ℕ) → j < W → has t j ≡ true → f j ≡ 0) → acrossOf WaveOp.Any W t f i ≡ 0
-      back h =
-          rw (set-of-none W (λ k. has t k && not (eqb (f k) 0)) (λ j b. unpicked (has t j) (eqb (f j) 0) (λ e. eq-eqb (f j) 0 (h j b e)))) refl
-
-  -- ALL is 1 exactly if the number of no executing lane is 0
-  pub all-none : (i : ℕ) → (acrossOf WaveOp.All W t f i ≡ 1) ↔ ((j : ℕ) → j < W → has t j ≡ true → f j ≡ 0 → ⊥)
-  unfolding zeros
-  all-none i = (forth, back)
-    where
-      told : (s : ℕ) → _≡_ {A = ℕ} (cond (eqb s 0) 1 0) 1 → s ≡ 0
-      told s e =
-          elim (ℕ-discrete s 0) [
-            | yes z ↦ z
-            | no z ↦ let one : _≡_ {A = ℕ} 0 1 = rw (ne-eqb s 0 z) at e in absurd (omega arith)
-          ]
-
-      forth : acrossOf WaveOp.All W t f i ≡ 1 → (j : ℕ) → j < W → has t j ≡ true → f j ≡ 0 → ⊥
-      forth e j b h z =
-          let none : (has t j && eqb (f j) 0) ≡ false = none-picked W (λ k. has t k && eqb (f k) 0) (told _ e) j b in
-          never (sym (rw (h, eq-eqb (f j) 0 z) at none))
-
-      unpicked : (b : Bool) (n : ℕ) → (b ≡ true → n ≡ 0 → ⊥) → (b && eqb n 0) ≡ false
-      unpicked true n h = ne-eqb n 0 (h refl)
-      unpicked false n h = refl
-
-      back : ((j : ℕ) → j < W → has t j ≡ true → f j ≡ 0 → ⊥) → acrossOf WaveOp.All W t f i ≡ 1
-      back h = rw (set-of-none W (λ k. has t k && eqb (f k) 0) (λ j b. unpicked (has t j) (f j) (h j b))) refl
-
--- ---- the lowest and the highest
+use Rattle.across.specs.Across.{brought, foldBelow, greatest, least, lowestOf, highestOf, acrossOf}
 
 -- x is the number of an executing lane below n
 pub record Among (t : ℕ) (f : ℕ → ℕ) (n x : ℕ) : Type 0 where
