@@ -13,8 +13,10 @@ use Rattle.across.proofs.wave_results.Tie as tie
 
 -- a width that was narrowed, put for the narrowed width
 narrowed-is : (n : tie.After-narrowed)
-    → byLane (n .narrowed .result) (acrossOf (n .before .args .op) (n .narrowed .result) (n .before .args .t) (λ j. getD (n .before .args .numbers .now) j 0))
-    ≡ byLane (min (n .before .args .width) widest) (acrossOf (n .before .args .op) (min (n .before .args .width) widest) (n .before .args .t) (λ j. getD (n .before .args .numbers .now) j 0))
+    → byLane (n .narrowed .result)
+    (acrossOf (n .before .args .op) (n .narrowed .result) (n .before .args .t) (λ j. getD (n .before .args .numbers .now) j 0))
+    ≡ byLane (min (n .before .args .width) widest)
+    (acrossOf (n .before .args .op) (min (n .before .args .width) widest) (n .before .args .t) (λ j. getD (n .before .args .numbers .now) j 0))
 narrowed-is n =
     let a = n .before .args in
     ap (λ (k : ℕ). byLane k (acrossOf (a .op) k (a .t) (λ j. getD (a .numbers .now) j 0))) (n .narrowed .ensures)

@@ -12,11 +12,16 @@ returns-12 c p =
 
 pub carry-class-spec : {M : Type 1} → statement M
 carry-class-spec = tie.close (tie.spec
-    (λ c. search needs) (λ c κs. search needs) (λ c. search needs) (λ c κs. search needs) (λ c. search needs) (λ c κs. search needs) (λ c. search needs) (λ c κs. search needs) (λ c. search needs) (λ c κs. search needs) (λ c. search needs) (λ c κs. search needs) (λ c. search needs) (λ c κs. search needs) (λ c. search needs) (λ c κs. search needs) (λ c. search needs) (λ c κs. search needs) (λ c. search needs) (λ c κs. search needs) (λ c. search needs) (λ c κs. search needs) (λ c. search needs) (λ c κs. search needs) (λ c. search needs) (λ c. c .before .before .carry-two .ensures _ _)
+    (λ c. search needs) (λ c κs. search needs) (λ c. search needs) (λ c κs. search needs) (λ c. search needs) (λ c κs. search needs)
+    (λ c. search needs) (λ c κs. search needs) (λ c. search needs) (λ c κs. search needs) (λ c. search needs) (λ c κs. search needs)
+    (λ c. search needs) (λ c κs. search needs) (λ c. search needs) (λ c κs. search needs) (λ c. search needs) (λ c κs. search needs)
+    (λ c. search needs) (λ c κs. search needs) (λ c. search needs) (λ c κs. search needs) (λ c. search needs) (λ c κs. search needs)
+    (λ c. search needs) (λ c. c .before .before .carry-two .ensures _ _)
     (λ c p. absurd (c .before .before .before .before .before .before .pre .1 _ (c .before .enum-told .given .1))) (λ c. search needs)
     (λ c. c .before .before .carry-one .ensures _ _) (λ c. search needs) (λ c. c .before .before .carry-special .ensures _ _)
     (λ c. search needs) (λ c. c .before .before .carry-number .ensures _ _) (λ c. search needs) (λ c. search needs) (λ c. search needs)
     (λ c. c .before .before .carry-load .ensures) (λ c. search needs) (λ c. search needs) (λ c. search needs)
     (λ c. c .before .before .before .before .carry-store .ensures) (λ c. search needs) (λ c. search needs)
     (λ c. c .before .before .before .before .carry-change .ensures _) (λ c. search needs) (λ c. search needs)
-    (λ c. c .before .before .before .before .carry-change2 .ensures _) (λ c. search needs) (λ c. c .before .before .carry-wave .ensures _ _) (λ c. search needs) (λ c. c .before .before .carry-shuffle .ensures _ _) returns-12)
+    (λ c. c .before .before .before .before .carry-change2 .ensures _) (λ c. search needs)
+    (λ c. c .before .before .carry-wave .ensures _ _) (λ c. search needs) (λ c. c .before .before .carry-shuffle .ensures _ _) returns-12)

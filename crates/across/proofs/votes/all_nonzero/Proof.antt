@@ -10,12 +10,16 @@ use Rattle.across.proofs.votes.all_nonzero.Statement.{statement}
 use Rattle.across.proofs.votes.all_nonzero.Tie as tie
 
 -- what is left, at the test
-left-are : (c : tie.After-without) → c .without .result ≡ zeros (c .before .before .before .before .args .width) (c .before .before .before .before .args .t) (λ j. getD (c .before .before .before .before .args .numbers .now) j 0)
+left-are : (c : tie.After-without)
+    → c .without .result
+    ≡ zeros (c .before .before .before .before .args .width) (c .before .before .before .before .args .t)
+    (λ j. getD (c .before .before .before .before .args .numbers .now) j 0)
 left-are c =
     let m = c .before in
     let v = m .before .before in
     let a = v .before .args in
-    others-zero (a .width) (a .t) _ _ _ _ (v .before .pre) (m .meet .ensures ∙ ap (bitAnd (a .t)) (m .before .first .ensures)) (v .nonzero-lanes .ensures) (c .without .ensures)
+    others-zero (a .width) (a .t) _ _ _ _ (v .before .pre) (m .meet .ensures ∙ ap (bitAnd (a .t)) (m .before .first .ensures))
+    (v .nonzero-lanes .ensures) (c .without .ensures)
 
 returns : tie.Need-returns
 returns c = rw (sym (left-are (c .before)) ∙ c .if1 .taken) refl
