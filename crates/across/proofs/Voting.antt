@@ -9,12 +9,12 @@ use native.Mathlib.Nat.{min-eq-left}
 use native.Mathlib.Omega.{arith}
 use lib.Bits.{bitAnd}
 use lib.Dec.{eqb, ltb}
-use borrow.Author.Tests.{lt-ltb, eqb-true, eq-eqb, ne-eqb}
+use borrow.Author.Tests.{eqb-true, eq-eqb, ne-eqb}
 use Rattle.ground.proofs.Bools.{never}
-use Rattle.lanes.specs.Sets.{widest, has, without, first, setOf}
+use Rattle.lanes.specs.Sets.{widest, has, without, first}
 use Rattle.lanes.proofs.Bits.{set-of-lt}
-use Rattle.lanes.proofs.Members.{has-and, has-without, has-zero, has-first, has-set-of, has-ext}
-use Rattle.lanes.proofs.Picking.{set-of-none}
+use Rattle.lanes.proofs.Members.{has-and, has-without, has-first, has-set-of, has-ext}
+use Rattle.lanes.proofs.Picking.{none-picked, set-of-none}
 use Rattle.instructions.specs.declared.instr.WaveOp.{WaveOp}
 use Rattle.across.specs.Across.{nonzero, zeros, acrossOf}
 
@@ -42,9 +42,9 @@ others-zero W t f every told set n e v h =
 
 -- ---- THEOREMS
 
--- a set of the lanes that p picks is none exactly if p picks none
-none-picked : (W : ℕ) (p : ℕ → Bool) → setOf W p ≡ 0 → (j : ℕ) → j < W → p j ≡ false
-none-picked W p e j b = rw (lt-ltb j W b) at (sym (has-set-of W p j) ∙ ap (λ (s : ℕ). has s j) e ∙ has-zero j)
+-- what is chosen where a set has no lane tells that it has none
+told-none : (s a b : ℕ) → (b ≡ a → ⊥) → cond (eqb s 0) a b ≡ a → s ≡ 0
+told-none s a b n e = elim (ℕ-discrete s 0) [ yes z ↦ z | no z ↦ absurd (n (rw (ne-eqb s 0 z) at e)) ]
 
 module _ (W t : ℕ) (f : ℕ → ℕ) where
   -- BALLOT has lane j exactly if it is a lane, executes and has a number other than 0
@@ -62,20 +62,13 @@ module _ (W t : ℕ) (f : ℕ → ℕ) where
   unfolding nonzero
   any-none i = (forth, back)
     where
-      told : (s : ℕ) → _≡_ {A = ℕ} (cond (eqb s 0) 0 1) 0 → s ≡ 0
-      told s e =
-          elim (ℕ-discrete s 0) [
-            | yes z ↦ z
-            | no z ↦ let one : _≡_ {A = ℕ} 1 0 = rw (ne-eqb s 0 z) at e in absurd (omega arith)
-          ]
-
       zero-of : (b c : Bool) → b ≡ true → (b && not c) ≡ false → c ≡ true
       zero-of true true e h = refl
       zero-of true false e h = never (sym h)
       zero-of false c e h = never e
 
       forth : acrossOf WaveOp.Any W t f i ≡ 0 → (j : ℕ) → j < W → has t j ≡ true → f j ≡ 0
-      forth e j b h = eqb-true (f j) 0 (zero-of (has t j) (eqb (f j) 0) h (none-picked W (λ k. has t k && not (eqb (f k) 0)) (told _ e) j b))
+      forth e j b h = eqb-true (f j) 0 (zero-of (has t j) (eqb (f j) 0) h (none-picked W (λ k. has t k && not (eqb (f k) 0)) (told-none _ 0 1 (λ z. omega arith) e) j b))
 
       unpicked : (b c : Bool) → (b ≡ true → c ≡ true) → (b && not c) ≡ false
       unpicked true c h = rw (h refl) refl
@@ -90,16 +83,9 @@ module _ (W t : ℕ) (f : ℕ → ℕ) where
   unfolding zeros
   all-none i = (forth, back)
     where
-      told : (s : ℕ) → _≡_ {A = ℕ} (cond (eqb s 0) 1 0) 1 → s ≡ 0
-      told s e =
-          elim (ℕ-discrete s 0) [
-            | yes z ↦ z
-            | no z ↦ let one : _≡_ {A = ℕ} 0 1 = rw (ne-eqb s 0 z) at e in absurd (omega arith)
-          ]
-
       forth : acrossOf WaveOp.All W t f i ≡ 1 → (j : ℕ) → j < W → has t j ≡ true → f j ≡ 0 → ⊥
       forth e j b h z =
-          let none : (has t j && eqb (f j) 0) ≡ false = none-picked W (λ k. has t k && eqb (f k) 0) (told _ e) j b in
+          let none : (has t j && eqb (f j) 0) ≡ false = none-picked W (λ k. has t k && eqb (f k) 0) (told-none _ 1 0 (λ z. omega arith) e) j b in
           never (sym (rw (h, eq-eqb (f j) 0 z) at none))
 
       unpicked : (b : Bool) (n : ℕ) → (b ≡ true → n ≡ 0 → ⊥) → (b && eqb n 0) ≡ false

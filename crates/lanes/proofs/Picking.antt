@@ -67,7 +67,11 @@ picked-more {n} {p} {s} {i} h b w q next mark e m t =
 pub marked-all : {n : ℕ} {p : ℕ → Bool} {s i : ℕ} → Marked n p s i → n ≤ i → s ≡ setOf n p
 marked-all {n} {p} {s} {i} t b = let e : i ≡ n = omega (arith, t .low) in t .made ∙ ap (λ (k : ℕ). setOf k p) e
 
--- no lane that is picked is none
+-- where no lane is in the set, none is picked
+pub none-picked : (n : ℕ) (p : ℕ → Bool) → setOf n p ≡ 0 → (i : ℕ) → i < n → p i ≡ false
+none-picked n p e i b = rw (lt-ltb i n b) at (sym (has-set-of n p i) ∙ ap (λ (s : ℕ). has s i) e ∙ has-zero i)
+
+-- where none is picked, no lane is in the set
 pub set-of-none : (n : ℕ) (p : ℕ → Bool) → ((i : ℕ) → i < n → p i ≡ false) → setOf n p ≡ 0
 set-of-none n p h = has-ext (setOf n p) 0 (λ i. has-set-of n p i ∙ none i ∙ sym (has-zero i))
   where
