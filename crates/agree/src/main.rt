@@ -8,7 +8,8 @@ mod states;
 
 ghost use Rattle.std.specs.Prelude.{◌≡◌, length};
 
-use libc::{STDIN_FILENO, STDOUT_FILENO};
+const STDIN_FILENO: i32 = 0;
+const STDOUT_FILENO: i32 = 1;
 use numbers::get;
 
 // The answer to a case of this kind, at the start of `out`, and how many bytes it has; none for a kind that there isn't.

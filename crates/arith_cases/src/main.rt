@@ -2,14 +2,14 @@
 // tests/arith_cases.py works the same lines out from page 01.
 use arith::sums::address;
 use instructions::instr::{AtomicOp, CompareOp, OneOp, TwoOp};
-use libc::STDOUT_FILENO;
+const STDOUT_FILENO: i32 = 1;
 use operations::divides;
 
 // How many corner values there are.
 const CORNERS: u32 = 16;
 
 // What is worked out of two operands.
-#[derive(Drop)]
+#[derive(Clone, Copy)]
 enum Work {
     Two(TwoOp),
     One(OneOp),

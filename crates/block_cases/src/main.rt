@@ -5,7 +5,8 @@ ghost use Rattle.std.specs.Prelude.{◌≤◌};
 use blocks::item::Reading;
 use blocks::structure;
 use blocks::structure::Checked;
-use libc::{STDIN_FILENO, STDOUT_FILENO};
+const STDIN_FILENO: i32 = 0;
+const STDOUT_FILENO: i32 = 1;
 
 // The digits of a word.
 const DIGITS: usize = 8;

@@ -8,7 +8,7 @@ use refusals::{REGISTER, Refusal};
 use words::reading::ReadAnswer;
 
 // An instruction as far as blocks go: its width where it has no part in them, and the refusal where it is none. BREAK and CONTINUE are jumps.
-#[derive(Drop)]
+#[derive(Clone, Copy)]
 pub enum Item {
     Plain(usize),
     If,
@@ -21,7 +21,7 @@ pub enum Item {
 }
 
 // What code is checked for: register numbers below R.
-#[derive(Drop)]
+#[derive(Clone, Copy)]
 pub struct Reading {
     pub registers: u32,
 }

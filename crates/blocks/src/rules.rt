@@ -6,7 +6,7 @@ use crate::item::Item;
 use refusals::{DEPTH, Refusal, STRAY};
 
 // What an instruction stands directly inside: no block, an IF before its ELSE, an IF after it, a loop.
-#[derive(Drop)]
+#[derive(Clone, Copy)]
 pub enum Inside {
     Nothing,
     Before,
@@ -16,7 +16,7 @@ pub enum Inside {
 
 // What an instruction means for the level that it stands in: go on, so many words further and in this part; the block is closed;
 // a block is opened, with its part and whether it is in a loop; a refusal.
-#[derive(Drop)]
+#[derive(Clone, Copy)]
 pub enum Turn {
     Go(usize, Inside),
     Close,

@@ -11,7 +11,7 @@ use lanes::said::DEEPEST;
 use refusals::{Refusal, UNCLOSED};
 
 // How a level ends: closed, with the place after its end; refused; or by the end of the code.
-#[derive(Drop)]
+#[derive(Clone, Copy)]
 pub enum LevelEnd {
     Closed(usize),
     Refused(Refusal),
@@ -19,7 +19,7 @@ pub enum LevelEnd {
 }
 
 // Whether code passes, or the refusal of the first broken rule.
-#[derive(Drop)]
+#[derive(Clone, Copy)]
 pub enum Checked {
     Fine,
     Refused(Refusal),

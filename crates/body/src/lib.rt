@@ -23,7 +23,7 @@ const MOST_KINDS: usize = 3;
 pub const LONGEST: usize = HEAD_BYTES + FAULT_BYTES * MOST_KINDS + BLOCK_BYTES * DEEPEST;
 
 // The length of a body, or the refusal.
-#[derive(Drop)]
+#[derive(Clone, Copy)]
 pub enum BodyAnswer {
     Length(usize),
     Refused(Refusal),

@@ -15,7 +15,7 @@ use packing::{DEPTH_WORD, HOT_WORDS};
 use wave::state::BLOCK_NUMBERS;
 
 // The first broken rule and its place, or none.
-#[derive(Drop)]
+#[derive(Clone, Copy)]
 pub(crate) enum Verdict {
     Fine,
     Broken { rule: Rule, place: usize },

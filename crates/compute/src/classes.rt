@@ -19,7 +19,7 @@ use instructions::instr::{Instr, OneOp, Space, TwoOp, WaveOp};
 use lanes::{ByLane, Lanes};
 
 // Every lane's result, with the fault lanes beside it.
-#[derive(Drop)]
+#[derive(Clone, Copy)]
 pub struct Results {
     pub value: ByLane,
     pub faults: Faults,

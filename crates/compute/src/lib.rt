@@ -28,14 +28,14 @@ use instructions::registers::registers_below;
 use lanes::{Lanes, WIDEST};
 
 // The wave's lanes, and the registers of each.
-#[derive(Drop)]
+#[derive(Clone, Copy)]
 pub struct Shape {
     pub width: u32,
     pub registers: u32,
 }
 
 // The faults, and the predicate that RD names as it is afterwards.
-#[derive(Drop)]
+#[derive(Clone, Copy)]
 pub struct Carried {
     pub faults: Faults,
     pub predicate: Lanes,

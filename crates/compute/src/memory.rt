@@ -15,7 +15,7 @@ use instructions::instr::AtomicOp;
 use lanes::{ByLane, EACH_LANE, Lanes};
 
 // What an atomic does to the word that it finds: an operation with its operand, or compare-and-swap.
-#[derive(Drop)]
+#[derive(Clone, Copy)]
 pub enum Change {
     Atomic(AtomicOp),
     Swap,

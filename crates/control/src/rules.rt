@@ -11,7 +11,7 @@ pub mod halting;
 pub mod opening;
 
 // After a control instruction: the lanes of fault 5, and the hot numbers.
-#[derive(Drop)]
+#[derive(Clone, Copy)]
 pub struct Stepped {
     pub barrier: Lanes,
     pub hot: Hot,

@@ -10,7 +10,7 @@ pub const KINDS: usize = 6;
 
 // The lanes of each kind of fault, in the order in which they are tested: 6 a base plus an offset that reaches 2^32, 1 an address that is
 // not a multiple of 4, 2 device and 3 local address past the memory, 4 a divisor of zero, 5 a barrier that some lane has not reached.
-#[derive(Drop)]
+#[derive(Clone, Copy)]
 pub struct Faults {
     pub over: Lanes,
     pub odd: Lanes,

@@ -11,14 +11,14 @@ use opcodes::table::{FoundOp, control_op, reaching_op, register_op};
 use words::reading::{instr_in, word_at};
 
 // An instruction, and how many words it has.
-#[derive(Drop)]
+#[derive(Clone, Copy)]
 pub struct Fetched {
     pub instr: Instr,
     pub words: u32,
 }
 
 // A control operation, or any other.
-#[derive(Drop)]
+#[derive(Clone, Copy)]
 pub enum ControlIn {
     Control(ControlOp),
     Other,

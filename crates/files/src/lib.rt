@@ -4,7 +4,7 @@ ghost use Rattle.files.specs.Within.{Within};
 use libc::STDERR_FILENO;
 
 // How many bytes were read; or that reading failed.
-#[derive(Drop)]
+#[derive(Clone, Copy)]
 pub enum Input {
     Read(usize),
     Failed,

@@ -5,7 +5,7 @@ ghost use Rattle.instructions.specs.Forms.{form, need_of, limits_of, size_of, ne
 use crate::instr::{ControlOp, Guard, Instr, Op};
 
 // The predicates that an operation allows: any, 1 to 3, or 0 alone.
-#[derive(Drop)]
+#[derive(Clone, Copy)]
 pub enum Need {
     Any,
     NotZero,
@@ -13,7 +13,7 @@ pub enum Need {
 }
 
 // What the second word of an operation is. Of registers: how large RS2, RS3 and the scope may be.
-#[derive(Drop)]
+#[derive(Clone, Copy)]
 pub enum Second {
     Nothing,
     Number,
@@ -21,7 +21,7 @@ pub enum Second {
 }
 
 // How large the fields of an operation may be, 0 where it does not use one. RD is at least `least`.
-#[derive(Drop)]
+#[derive(Clone, Copy)]
 pub struct Limits {
     pub least: u8,
     pub rd: u8,

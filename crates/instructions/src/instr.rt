@@ -1,7 +1,7 @@
 // An instruction: its operation, the lanes that it is for, and its fields.
 
 // The operations of two registers, RS1 and RS2.
-#[derive(Drop)]
+#[derive(Clone, Copy)]
 pub enum TwoOp {
     Add,
     Sub,
@@ -22,7 +22,7 @@ pub enum TwoOp {
 }
 
 // The comparisons: their RD is a predicate.
-#[derive(Drop)]
+#[derive(Clone, Copy)]
 pub enum CompareOp {
     Eq,
     Ne,
@@ -31,7 +31,7 @@ pub enum CompareOp {
 }
 
 // The operations of one register, RS1.
-#[derive(Drop)]
+#[derive(Clone, Copy)]
 pub enum OneOp {
     Neg,
     Abs,
@@ -41,7 +41,7 @@ pub enum OneOp {
 }
 
 // What ATOMIC does to a word of device memory.
-#[derive(Drop)]
+#[derive(Clone, Copy)]
 pub enum AtomicOp {
     Add,
     Sub,
@@ -56,7 +56,7 @@ pub enum AtomicOp {
 }
 
 // What a wave operation makes of RS1 of the executing lanes.
-#[derive(Drop)]
+#[derive(Clone, Copy)]
 pub enum WaveOp {
     Broadcast,
     ReduceAdd,
@@ -69,7 +69,7 @@ pub enum WaveOp {
 }
 
 // The control instructions.
-#[derive(Drop)]
+#[derive(Clone, Copy)]
 pub enum ControlOp {
     If,
     Else,
@@ -84,14 +84,14 @@ pub enum ControlOp {
 }
 
 // The memory that a load or a store is for.
-#[derive(Drop)]
+#[derive(Clone, Copy)]
 pub enum Space {
     Device,
     Local,
 }
 
 // What an opcode and a modifier name together. SHUFFLE is the wave operation that uses RS2.
-#[derive(Drop)]
+#[derive(Clone, Copy)]
 pub enum Op {
     Two(TwoOp),
     Compare(CompareOp),
@@ -108,14 +108,14 @@ pub enum Op {
 }
 
 // The lanes that an instruction is for: predicate 0, not negated, is every lane.
-#[derive(Drop)]
+#[derive(Clone, Copy)]
 pub struct Guard {
     pub pred: u8,
     pub negate: bool,
 }
 
 // One instruction. A field that its operation does not use is zero.
-#[derive(Drop)]
+#[derive(Clone, Copy)]
 pub struct Instr {
     pub op: Op,
     pub guard: Guard,

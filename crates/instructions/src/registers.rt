@@ -5,7 +5,7 @@ ghost use Rattle.instructions.specs.Registers.{registers, registers_of, below, r
 use crate::instr::{Instr, Op};
 
 // For each field, whether it is a register.
-#[derive(Drop)]
+#[derive(Clone, Copy)]
 pub struct Registers {
     pub rd: bool,
     pub rs1: bool,

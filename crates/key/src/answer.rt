@@ -2,7 +2,7 @@
 use refusals::Refusal;
 
 // The length of the body that was written.
-#[derive(Drop)]
+#[derive(Clone, Copy)]
 pub enum KeyAnswer {
     Wrote(usize),
     Refused(Refusal),

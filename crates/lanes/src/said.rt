@@ -14,7 +14,7 @@ pub const AFTER_ELSE: u32 = 2;
 pub const LOOP: u32 = 3;
 
 // An open block: its part, the place of its opener, and the lanes entered, aside, again and left.
-#[derive(Drop)]
+#[derive(Clone, Copy)]
 pub struct Block {
     pub part: u32,
     pub opener: u32,
@@ -25,7 +25,7 @@ pub struct Block {
 }
 
 // A fault kind and its lanes.
-#[derive(Drop)]
+#[derive(Clone, Copy)]
 pub struct Fault {
     pub kind: u32,
     pub lanes: Lanes,

@@ -20,7 +20,7 @@ use pieces::put_pieces;
 use refusals::{NO_WORDS, Refusal, SHORT};
 
 // How many bytes were written; or a refusal.
-#[derive(Drop)]
+#[derive(Clone, Copy)]
 pub enum TextAnswer {
     Wrote { bytes: usize },
     Refused(Refusal),

@@ -7,7 +7,7 @@ use crate::numerals::{decimal, numeral_of};
 use instructions::instr::{Instr, Op};
 
 // An instruction's fields as pieces: its registers, RS1 as a special number, and the number, whose `0x` stands in front.
-#[derive(Drop)]
+#[derive(Clone, Copy)]
 pub struct Fields {
     pub rd: u64,
     pub rs1: u64,

@@ -14,7 +14,7 @@ use blocks::{item, rules};
 use lanes::said::{AFTER_ELSE, BEFORE_ELSE, DEEPEST, LOOP};
 
 // The open blocks, outermost first: the part (1 before ELSE, 2 after, 3 loop) and the opener's place of each, 0 past the depth; and how many are loops.
-#[derive(Drop)]
+#[derive(Clone, Copy)]
 pub struct Stack {
     pub depth: usize,
     pub loops: usize,
@@ -23,7 +23,7 @@ pub struct Stack {
 }
 
 // Whether the place is an instruction's first word or the end, and the blocks that are open there (none where it is neither).
-#[derive(Drop)]
+#[derive(Clone, Copy)]
 pub struct OpenAt {
     pub found: bool,
     pub stack: Stack,
@@ -140,7 +140,7 @@ fn turned_to(s: Stack, inside: Inside) -> Stack
 }
 
 // The place and the open blocks after one instruction; `on` is false where the pass is over.
-#[derive(Drop)]
+#[derive(Clone, Copy)]
 pub struct Moved {
     pub on: bool,
     pub at: usize,

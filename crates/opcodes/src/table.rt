@@ -6,7 +6,7 @@ ghost use Rattle.opcodes.specs.Named.{Named};
 use instructions::instr::{AtomicOp, CompareOp, ControlOp, OneOp, Op, Space, TwoOp, WaveOp};
 
 // What an opcode and a modifier name.
-#[derive(Drop)]
+#[derive(Clone, Copy)]
 pub enum FoundOp {
     Carried(Op),
     Missing,

@@ -2,7 +2,7 @@
 use refusals::Refusal;
 
 // A record's place and length, and the first record with equal bytes, counted from 1.
-#[derive(Drop)]
+#[derive(Clone, Copy)]
 pub enum ReadAnswer {
     Record {
         place: usize,
@@ -13,7 +13,7 @@ pub enum ReadAnswer {
 }
 
 // The count of a file's records.
-#[derive(Drop)]
+#[derive(Clone, Copy)]
 pub enum CountAnswer {
     Count(usize),
     Refused(Refusal),

@@ -1,7 +1,7 @@
 // Page 01's table of refusals: what every answer that refuses carries, and a name for each number.
 
 // The number of the rule that is broken, and where.
-#[derive(Drop)]
+#[derive(Clone, Copy)]
 pub struct Refusal {
     pub number: u32,
     pub place: usize,

@@ -24,7 +24,7 @@ const SETTINGS: usize = 3;
 const HOT: usize = 7;
 
 // A line so far: its numbers, how many they are, and the number that is being read.
-#[derive(Drop)]
+#[derive(Clone, Copy)]
 struct Line {
     numbers: [u32; SPACE],
     count: usize,

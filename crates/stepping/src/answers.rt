@@ -4,7 +4,7 @@ use refusals::Refusal;
 use wave::state::State;
 
 // A fault has the lanes of each kind. Only a call that tests what it is given refuses.
-#[derive(Drop)]
+#[derive(Clone, Copy)]
 pub enum Outcome {
     Ended,
     OutOfBudget,
@@ -13,7 +13,7 @@ pub enum Outcome {
 }
 
 // The outcome, the instructions carried out, and the state as it now is.
-#[derive(Drop)]
+#[derive(Clone, Copy)]
 pub struct Replayed {
     pub outcome: Outcome,
     pub steps: u32,

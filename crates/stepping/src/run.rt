@@ -14,7 +14,7 @@ use lanes::{first, without};
 use wave::state::{Hot, PATH_NUMBERS, State, tidy};
 
 // Where a run stopped: its outcome, its steps and the hot numbers.
-#[derive(Drop)]
+#[derive(Clone, Copy)]
 pub(crate) struct Stopped {
     pub(crate) outcome: Outcome,
     pub(crate) steps: u32,

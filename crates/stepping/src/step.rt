@@ -15,7 +15,7 @@ use wave::guarding::executing;
 use wave::state::{Hot, PATH_NUMBERS, whole};
 
 // After a step: the faults, and the hot numbers.
-#[derive(Drop)]
+#[derive(Clone, Copy)]
 pub struct StepAnswer {
     pub faults: Faults,
     pub hot: Hot,

@@ -24,7 +24,7 @@ pub const LEFT: usize = 5;
 pub const PATH_NUMBERS: usize = BLOCK_NUMBERS * DEEPEST;
 
 // The numbers that nearly every step reads or writes. `depth` is how many blocks are open.
-#[derive(Drop)]
+#[derive(Clone, Copy)]
 pub struct Hot {
     pub place: u32,
     pub active: Lanes,
@@ -36,7 +36,7 @@ pub struct Hot {
 }
 
 // A wave's whole state. The numbers of `blocks` past the open blocks do not count.
-#[derive(Drop)]
+#[derive(Clone, Copy)]
 pub struct State {
     pub hot: Hot,
     pub blocks: [u32; PATH_NUMBERS],

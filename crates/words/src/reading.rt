@@ -9,7 +9,7 @@ use opcodes::table::{FoundOp, op_of};
 use refusals::{FIELD, NO_SECOND, NOT_CARRIED, Refusal};
 
 // An instruction and how many words it has; or a refusal.
-#[derive(Drop)]
+#[derive(Clone, Copy)]
 pub enum ReadAnswer {
     Read { instr: Instr, words: usize },
     Refused(Refusal),

@@ -9,7 +9,7 @@ use opcodes::table::{modifier_of, opcode_of};
 use refusals::{NO_WORDS, Refusal, SHORT};
 
 // How many words were written; or a refusal.
-#[derive(Drop)]
+#[derive(Clone, Copy)]
 pub enum WriteAnswer {
     Wrote { words: usize },
     Refused(Refusal),
