@@ -1,5 +1,7 @@
 // The wave operations: what the executing lanes of a wave make together of a number of each. A lane's number counts only where it executes,
 // and every lane's result is there before any is written.
+#![tactic(auto)]
+
 mod extremes;
 mod sources;
 mod sums;

@@ -1,5 +1,7 @@
 // Answers the cases on standard input, on standard output, in the format of second/src/cases/mod.rs: for each of the page's functions,
 // what the library's function answers.
+#![tactic(auto)]
+
 mod days;
 mod format;
 mod operations;
@@ -9,7 +11,9 @@ mod states;
 ghost use Rattle.std.specs.Prelude.{◌≡◌, length};
 
 const STDIN_FILENO: i32 = 0;
+
 const STDOUT_FILENO: i32 = 1;
+
 use numbers::get;
 
 // The answer to a case of this kind, at the start of `out`, and how many bytes it has; none for a kind that there isn't.

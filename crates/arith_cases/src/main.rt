@@ -1,8 +1,12 @@
 // Every operation on corner values, as text: a line for each operation and first operand, with the results over the second.
 // tests/arith_cases.py works the same lines out from page 01.
+#![tactic(auto)]
+
 use arith::sums::address;
 use instructions::instr::{AtomicOp, CompareOp, OneOp, TwoOp};
+
 const STDOUT_FILENO: i32 = 1;
+
 use operations::divides;
 
 // How many corner values there are.

@@ -1,11 +1,15 @@
 // Runs the code's check on the cases of the standard input. A case is a line of words of eight hexadecimal digits, with a space between two:
 // the number of registers, then the code. For each it writes a line, `fine` or the refusal's number and place.
+#![tactic(auto)]
+
 ghost use Rattle.std.specs.Prelude.{◌≤◌};
 
 use blocks::item::Reading;
 use blocks::structure;
 use blocks::structure::Checked;
+
 const STDIN_FILENO: i32 = 0;
+
 const STDOUT_FILENO: i32 = 1;
 
 // The digits of a word.

@@ -1,4 +1,6 @@
 // The layout of a key's body: which bytes are one, how long it is, and what it says.
+#![tactic(auto)]
+
 pub mod fields;
 
 ghost use Rattle.std.specs.Prelude.{◌≡◌, ◌+◌, ◌*◌, ◌≤◌, length};

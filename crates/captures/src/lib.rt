@@ -3,6 +3,8 @@
 // Thirteen numbers: the bytes 57 43 41 50, edition 1, kernel number, width, registers, lanes, budget, then the counts of words
 // of code, registers, device memory, local memory and state, and 0. The words of each follow in that order, to the end of the
 // file. A launch has no state; a state's words are place, active, halted, p1, p2, p3, depth, and six for each open block.
+#![tactic(auto)]
+
 pub mod answer;
 mod reading;
 mod testing;

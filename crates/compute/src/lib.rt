@@ -1,5 +1,7 @@
 // One instruction that is not control, carried out by the executing lanes: every lane's result is worked out before any lane is
 // written, and with a fault nothing is written at all.
+#![tactic(auto)]
+
 mod classes;
 mod comparisons;
 mod constants;

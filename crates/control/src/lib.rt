@@ -1,4 +1,6 @@
 // The control rules of one step: one control instruction, whichever it is.
+#![tactic(auto)]
+
 pub mod rules;
 
 ghost use Rattle.std.specs.Prelude.{◌≡◌};

@@ -5,12 +5,17 @@
 //   3 I      record I of a day file
 //   4 -      the listing of a day file
 // tests/day_files.py makes the cases, and answers them from the page.
+#![tactic(auto)]
+
 ghost use Rattle.std.specs.Prelude.{◌≡◌, ◌<◌, length};
 
 use body::BodyAnswer;
 use dayfile::answer::MakeAnswer;
+
 const STDIN_FILENO: i32 = 0;
+
 const STDOUT_FILENO: i32 = 1;
+
 use numbers::get;
 use records::answer::ReadAnswer;
 

@@ -1,4 +1,6 @@
 // The instruction at a place of code that has passed the check: what its words say, with no test of them.
+#![tactic(auto)]
+
 ghost use Rattle.std.specs.Prelude.{◌≡◌};
 ghost use Rattle.fetching.specs.Fetching.{nop, fetch_at, control_in};
 ghost use Rattle.instructions.specs.Forms.{size_of};

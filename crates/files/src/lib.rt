@@ -1,4 +1,6 @@
 // Input read whole and output written whole, for the programs. What fails is one line on standard error, which begins with the file's name.
+#![tactic(auto)]
+
 ghost use Rattle.files.specs.Within.{Within};
 
 use libc::STDERR_FILENO;

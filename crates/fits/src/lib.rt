@@ -1,4 +1,6 @@
 // Whether a handed-in state fits.
+#![tactic(auto)]
+
 ghost use Rattle.std.specs.Prelude.{◌≡◌};
 ghost use Rattle.fits.specs.FitsTest.{fits_test};
 

@@ -1,4 +1,6 @@
 // Sets of lanes, as masks: lane i is bit i.
+#![tactic(auto)]
+
 pub mod said;
 
 ghost use Rattle.std.specs.Prelude.{◌≡◌, ◌&&◌, min, ltb};

@@ -1,5 +1,7 @@
 // Lists a day file: the one that the first argument names, or standard input where there is none. What can't be read or written is a line
 // on standard error.
+#![tactic(auto)]
+
 use files::{Input, read_whole, write_whole};
 use libc::{STDIN_FILENO, STDOUT_FILENO};
 

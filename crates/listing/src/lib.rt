@@ -1,6 +1,8 @@
 // The listing's text of a day file.
 //
 // The file is tested once, and its records are then walked: the time is that of `records::firsts`.
+#![tactic(auto)]
+
 mod field;
 mod table;
 

@@ -1,6 +1,8 @@
 // Makes a day file from bodies that lie one after another in the file that the first argument names, or on standard input where
 // there is none. The day file goes to standard output; a refusal's number and place, and what can't be read or written, go to standard
 // error.
+#![tactic(auto)]
+
 ghost use Rattle.std.specs.Prelude.{◌≡◌, ◌+◌, length};
 ghost use Rattle.dayfile.specs.Day.{most_bytes, longest_file};
 

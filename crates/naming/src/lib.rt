@@ -1,4 +1,6 @@
 // The text of an instruction, one line such as `ADD r3, r1, r2 on p2`.
+#![tactic(auto)]
+
 mod ending;
 mod names;
 mod numerals;

@@ -1,2 +1,4 @@
 // The table of operations: which opcode and modifier each has.
+#![tactic(auto)]
+
 pub mod table;

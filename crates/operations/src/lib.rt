@@ -1,5 +1,7 @@
 // What an operation gives, chosen by its name; what each does to numbers is `arith`.
 // Every function has an answer for all operands: a divisor of zero is the caller's fault to find, by `divides`.
+#![tactic(auto)]
+
 ghost use Rattle.std.specs.Prelude.{◌≡◌};
 ghost use Rattle.arith.specs.Arith as arith;
 ghost use Rattle.arith.specs.Arith.{two_of, one_of, compare_of, atomic_of, swap_of};

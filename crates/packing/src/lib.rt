@@ -1,5 +1,7 @@
 // A state as words and back, in the order that captures have: place, active, halted, p1, p2, p3, depth, and then six numbers for each
 // block, outermost first.
+#![tactic(auto)]
+
 ghost use Rattle.std.specs.Prelude.{◌≡◌, ◌++◌, get_or};
 ghost use Rattle.packing.specs.Words.{hot_in, blocks_in, state_in, words_of, word_count};
 

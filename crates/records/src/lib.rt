@@ -2,6 +2,8 @@
 //
 // Reading a record takes time in the length of the file. `firsts` compares each record with those before it, so its time grows with
 // the square of the count, times the length of a body.
+#![tactic(auto)]
+
 mod accepting;
 pub mod answer;
 mod reading;

@@ -1,4 +1,5 @@
 // Page 01's table of refusals: what every answer that refuses carries, and a name for each number.
+#![tactic(auto)]
 
 // The number of the rule that is broken, and where.
 #[derive(Clone, Copy)]

@@ -1,6 +1,8 @@
 // Replays a capture: replay_capture CAPTURE [OUT] [KEY] [slices]. The report goes to standard output; OUT gets the end state as a capture,
 // so that the run can be gone on with, and KEY a fault's body. A refused capture writes neither. With the word `slices` the state is kept
 // in OUT on the way too. An error is one line on standard error.
+#![tactic(auto)]
+
 mod keeping;
 mod opening;
 mod replaying;

@@ -1,6 +1,8 @@
 // Asks of the states on the standard input whether they fit. A case is a line of hexadecimal numbers, with a space between two: the number of
 // registers, the launched lanes n, how many words the code has, the code, the seven hot numbers, and numbers of the open blocks (0 where the
 // line ends first). For each it writes a line, `fits` or `11`.
+#![tactic(auto)]
+
 ghost use Rattle.std.specs.Prelude.{◌≤◌, ◌+◌};
 
 use blocks::item::Reading;

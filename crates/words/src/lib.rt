@@ -1,3 +1,5 @@
 // The words: instructions from words, and words from instructions.
+#![tactic(auto)]
+
 pub mod reading;
 pub mod writing;

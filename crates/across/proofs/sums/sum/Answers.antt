@@ -1,0 +1,20 @@
+-- `across::sums::sum` meets its contract: at turn i it is the sum of the executing lanes below i.
+use Prim.Native.Nat.{◌-◌}
+use native.Mathlib.Omega.{arith}
+use lib.ListN.{get_or}
+use borrow.Author.Rules.{rules}
+use Rattle.instructions.specs.declared.instr.TwoOp.{TwoOp}
+use Rattle.across.proofs.Folding.{Folded, folded_none, folded_more, folded_all}
+use Rattle.across.proofs.sums.sum.Goals as goal
+
+pub loop-i-init : goal.loop-i-init
+loop-i-init c = folded_none TwoOp.Add 0 _ _
+
+pub bring-requires : goal.bring-requires
+bring-requires c = omega (arith, c.requires)
+
+pub loop-i-preserved : goal.loop-i-preserved
+loop-i-preserved c = folded_more c.loop-i.invariant (omega arith) _ _ c.bring.ensures c.add-sum.ensures
+
+pub returns : goal.returns
+returns c = folded_all c.loop-i.invariant (omega arith)

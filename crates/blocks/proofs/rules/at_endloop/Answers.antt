@@ -1,0 +1,12 @@
+-- Each surrounding in turn.
+use borrow.Author.Rules.{rules}
+use Rattle.blocks.proofs.rules.at_endloop.Goals as goal
+
+pub returns-in-Nothing : goal.returns-in-Nothing
+returns-in-Nothing c = rw c.in-Nothing.is
+
+pub returns-in-Before : goal.returns-in-Before
+returns-in-Before c = rw c.in-Before.is
+
+pub returns-in-After : goal.returns-in-After
+returns-in-After c = rw c.in-After.is

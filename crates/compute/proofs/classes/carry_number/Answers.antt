@@ -1,0 +1,15 @@
+-- `compute::classes::carry_number` meets its contract: the writer was handed the results, and no fault.
+use mathlib.Core.Path.{refl}
+use borrow.Author.Rules.{rules}
+use Rattle.compute.proofs.Standing.{ready_rd}
+use Rattle.compute.proofs.Arms.{arm_number}
+use Rattle.compute.proofs.classes.carry_number.Goals as goal
+
+pub write_results-requires : goal.write_results-requires
+write_results-requires c = ready_rd c.requires refl
+
+pub returns : goal.returns
+returns c =
+    let a = c.args in
+    arm_number a.shape a.x a.t p a.regs.now device local _ _ _ _ c.write_results.ensures c.requires c.no_faults-faults.ensures
+    c.each-value.ensures

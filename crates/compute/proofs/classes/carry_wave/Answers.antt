@@ -1,0 +1,18 @@
+-- `compute::classes::carry_wave` meets its contract: the writer was handed the results of the registers read, and no fault.
+use mathlib.Core.Path.{refl}
+use borrow.Author.Rules.{rules}
+use Rattle.compute.proofs.Standing.{ready_rd, ready_rs1}
+use Rattle.compute.proofs.Arms.{arm_wave}
+use Rattle.compute.proofs.classes.carry_wave.Goals as goal
+
+pub gather-numbers-requires : goal.gather-numbers-requires
+gather-numbers-requires c = ready_rs1 c.requires refl
+
+pub write_results-requires : goal.write_results-requires
+write_results-requires c = ready_rd c.requires refl
+
+pub returns : goal.returns
+returns c =
+    let a = c.args in
+    arm_wave a.shape a.x a.t p a.regs.now device local _ _ _ _ c.write_results.ensures a.op c.requires c.no_faults-faults.ensures
+    _ c.gather-numbers.ensures c.wave_results-value.ensures

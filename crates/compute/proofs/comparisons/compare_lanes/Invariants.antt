@@ -1,0 +1,21 @@
+-- `compute::comparisons::compare_lanes` meets its contract: at turn i the lanes below i have their results.
+use mathlib.Core.Path.{ap, ◌∙◌}
+use mathlib.Core.Bool.{Bool, cond}
+use Prim.Native.Nat.{ℕ, ◌-◌, ◌<◌}
+use native.Mathlib.Omega.{arith}
+use lib.ListN.{length, get_or}
+use borrow.Author.Rules.{rules}
+use Rattle.arith.specs.Arith.{compare_of}
+use Rattle.compute.specs.Registers.{gather_of}
+use Rattle.compute.specs.Lanewise.{compare_lanes}
+use Rattle.compute.proofs.Slots.{slot_in_lem}
+use Rattle.lanes.proofs.Filling.{Filled, filled_none, filled_all}
+use Rattle.compute.proofs.Lanewise.{filled_two}
+use Rattle.compute.proofs.comparisons.compare_lanes.Given as goal
+
+abbrev pub invariant-loop-i : goal.invariant-loop-i
+invariant-loop-i l =
+    Filled l.shape.width (λ j. cond (compare_of l.op (get_or (gather_of l.shape l.regs l.rs1) j 0) (get_or (gather_of l.shape l.regs l.rs2) j 0)) 1 0) l.out l.i
+
+abbrev pub decreases-loop-i : goal.decreases-loop-i
+decreases-loop-i l = l.width - l.i

@@ -1,0 +1,24 @@
+-- `compute::memory::store_lanes` meets its contract: at turn i the lanes below i have stored.
+use mathlib.Core.List.{List}
+use Prim.Native.Nat.{ℕ, ◌-◌, ◌<◌}
+use native.Mathlib.Omega.{arith}
+use lib.ListN.{length, get_or}
+use borrow.Author.Rules.{rules}
+use Rattle.ground.proofs.Turns.{Turned, turned_none, turned_more, turned_all, length-turned}
+use Rattle.compute.specs.declared.Shape.{Shape}
+use Rattle.compute.specs.Registers.{gather_of}
+use Rattle.compute.specs.Memory.{change_turn, changes_of}
+use Rattle.compute.proofs.Slots.{slot_in_lem}
+use Rattle.compute.proofs.Lanewise.{read_gathered}
+use Rattle.compute.proofs.Changing.{store_turn, length-change_turn}
+use Rattle.compute.proofs.memory.store_lanes.Given as goal
+
+-- what lane i stores
+abbrev pub value : Shape → List ℕ → ℕ → ℕ → ℕ
+value shape regs rd i = get_or (gather_of shape regs rd) i 0
+
+abbrev pub invariant-loop-i : goal.invariant-loop-i
+invariant-loop-i l = Turned l.shape.width (change_turn l.at (λ i old. value l.shape l.regs l.rd i) l.t) l.initial.memory l.memory l.i
+
+abbrev pub decreases-loop-i : goal.decreases-loop-i
+decreases-loop-i l = l.width - l.i

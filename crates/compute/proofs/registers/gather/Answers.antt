@@ -1,0 +1,27 @@
+-- `compute::registers::gather` meets its contract: at turn i the lanes below i have their registers.
+use mathlib.Core.Path.{ap}
+use Prim.Native.Nat.{ℕ, ◌-◌, ◌<◌}
+use native.Mathlib.Omega.{arith}
+use lib.ListN.{length, get_or}
+use borrow.Author.Rules.{rules}
+use Rattle.compute.specs.Registers.{slot_in, gather_of}
+use Rattle.lanes.proofs.Filling.{Filled, filled_none, filled_more, filled_all}
+use Rattle.compute.proofs.Slots.{slot_in_lem}
+use Rattle.compute.proofs.registers.gather.Goals as goal
+
+pub loop-i-init : goal.loop-i-init
+loop-i-init c = filled_none _ c.requires.narrow
+
+pub offset_bounds-regs-at : goal.offset_bounds-regs-at
+offset_bounds-regs-at c = let h = (let at_inside : c.slot-at.result < length c.args.regs.now = slot_in_lem c.requires _ _ c.slot-at.ensures (omega arith) in at_inside) in omega arith
+
+pub bounds-regs-at : goal.bounds-regs-at
+bounds-regs-at c = (let at_inside : c.slot-at.result < length c.args.regs.now = slot_in_lem c.requires _ _ c.slot-at.ensures (omega arith) in at_inside)
+
+pub loop-i-preserved : goal.loop-i-preserved
+loop-i-preserved c =
+    filled_more c.loop-i.invariant (omega arith) _ (ap (λ (k : ℕ). get_or c.args.regs.now k 0) c.slot-at.ensures)
+
+pub returns : goal.returns
+unfolding gather_of
+returns c = filled_all c.loop-i.invariant (omega arith)

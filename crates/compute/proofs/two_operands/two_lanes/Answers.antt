@@ -1,0 +1,35 @@
+-- `compute::two_operands::two_lanes` meets its contract: at turn i the lanes below i have their results.
+use Prim.Native.Nat.{◌-◌, ◌<◌}
+use native.Mathlib.Omega.{arith}
+use lib.ListN.{length, get_or}
+use borrow.Author.Rules.{rules}
+use Rattle.arith.specs.Arith.{two_of}
+use Rattle.compute.specs.Registers.{gather_of}
+use Rattle.compute.specs.Lanewise.{two_lanes}
+use Rattle.compute.proofs.Slots.{slot_in_lem}
+use Rattle.lanes.proofs.Filling.{Filled, filled_none, filled_all}
+use Rattle.compute.proofs.Lanewise.{filled_two}
+use Rattle.compute.proofs.two_operands.two_lanes.Goals as goal
+
+pub loop-i-init : goal.loop-i-init
+loop-i-init c = filled_none _ c.requires.0.narrow
+
+pub offset_bounds-regs-p : goal.offset_bounds-regs-p
+offset_bounds-regs-p c = let h = (let at_inside : c.slot-p.result < length c.args.regs.now = slot_in_lem c.requires.0 _ _ c.slot-p.ensures (omega arith) in at_inside) in omega arith
+
+pub bounds-regs-p : goal.bounds-regs-p
+bounds-regs-p c = (let at_inside : c.slot-p.result < length c.args.regs.now = slot_in_lem c.requires.0 _ _ c.slot-p.ensures (omega arith) in at_inside)
+
+pub offset_bounds-regs-q : goal.offset_bounds-regs-q
+offset_bounds-regs-q c = let h = (let at_inside_second : c.slot-q.result < length c.args.regs.now = slot_in_lem c.requires.1 _ _ c.slot-q.ensures (omega arith) in at_inside_second) in omega arith
+
+pub bounds-regs-q : goal.bounds-regs-q
+bounds-regs-q c = (let at_inside_second : c.slot-q.result < length c.args.regs.now = slot_in_lem c.requires.1 _ _ c.slot-q.ensures (omega arith) in at_inside_second)
+
+pub loop-i-preserved : goal.loop-i-preserved
+loop-i-preserved c =
+    filled_two (two_of c.args.op) c.requires c.loop-i.invariant (omega arith) c.slot-p.ensures c.slot-q.ensures c.two.ensures
+
+pub returns : goal.returns
+unfolding two_lanes
+returns c = filled_all c.loop-i.invariant (omega arith)

@@ -1,0 +1,26 @@
+-- `faulting::addresses::each_kind` meets its contract: at turn k the kinds up to k have their lanes.
+use mathlib.Core.Path.{◌≡◌, refl, ap, ◌∙◌}
+use mathlib.Core.List.{List}
+use mathlib.Core.Logic.{dite}
+use Prim.Native.Nat.{ℕ, ◌+◌, ◌-◌, ◌<◌}
+use native.Mathlib.Decide.{dec_lt}
+use native.Mathlib.Omega.{arith}
+use lib.ListN.{length, get_or, set, length-set}
+use lib.Seq.{get_or-set_same, get_or-set_other}
+use borrow.Author.Rules.{rules}
+use Rattle.instructions.specs.declared.instr.Space.{Space}
+use Rattle.faulting.specs.Kinds.{kinds}
+use Rattle.faulting.specs.Causes.{sum_fault, base_of, fault_lanes}
+use Rattle.faulting.proofs.EveryKind.{each_same}
+use Rattle.faulting.proofs.addresses.each_kind.Given as goal
+
+-- the lanes of kind k
+abbrev pub lanes_of : Space → List ℕ → ℕ → ℕ → ℕ → ℕ → ℕ → ℕ
+lanes_of space at offset words t width k = fault_lanes width t (λ i. sum_fault space words (base_of (get_or at i 0) offset) offset) k
+
+abbrev pub invariant-loop-k : goal.invariant-loop-k
+invariant-loop-k l =
+    (length l.lanes ≡ kinds) × ((j : ℕ) → j < l.k → get_or l.lanes j 0 ≡ lanes_of l.space l.at l.offset l.words l.t l.width (j + 1))
+
+abbrev pub decreases-loop-k : goal.decreases-loop-k
+decreases-loop-k l = kinds - l.k

@@ -1,0 +1,17 @@
+-- `faulting::divisors::zero_lanes` meets its contract: at turn i the set has the lanes below i whose divisor is zero.
+use mathlib.Core.Path.{ap}
+use mathlib.Core.Bool.{Bool, ◌&&◌}
+use Prim.Native.Nat.{◌-◌}
+use native.Mathlib.Omega.{arith}
+use lib.Dec.{eqb}
+use lib.ListN.{get_or}
+use borrow.Author.Rules.{rules}
+use Rattle.lanes.specs.Sets.{has}
+use Rattle.lanes.proofs.Picking.{Marked, marked_none, picked_more, marked_all}
+use Rattle.faulting.proofs.divisors.zero_lanes.Given as goal
+
+abbrev pub invariant-loop-i : goal.invariant-loop-i
+invariant-loop-i l = Marked l.width (λ j. has l.t j && eqb (get_or l.divisors j 0) 0) l.set l.i
+
+abbrev pub decreases-loop-i : goal.decreases-loop-i
+decreases-loop-i l = l.width - l.i

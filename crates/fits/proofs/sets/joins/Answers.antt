@@ -1,0 +1,6 @@
+-- The sets are apart, and their union is the third.
+use borrow.Author.Rules.{rules}
+use Rattle.fits.proofs.sets.joins.Goals as goal
+
+pub returns : goal.returns
+returns c = rw c.apart.ensures

@@ -1,0 +1,6 @@
+-- Every field keeps to its limits: the tests are `fits` term by term, with the two callees' answers put in.
+use borrow.Author.Rules.{rules}
+use Rattle.instructions.proofs.forms.fits.Goals as goal
+
+pub returns : goal.returns
+returns c = rw (c.guard_fits.ensures, c.second_fits.ensures)

@@ -1,0 +1,15 @@
+-- The invariant: the kinds below `kind` stand one behind another, and the loop stands behind them.
+use mathlib.Core.Path.{◌≡◌, refl, ◌∙◌}
+use Prim.Native.Nat.{suc, ◌-◌}
+use native.Mathlib.Omega.{arith}
+use lib.ListN.{length}
+use borrow.Author.Rules.{rules}
+use Rattle.faulting.specs.Kinds.{kinds}
+use Rattle.key.proofs.Kinding.{Kept, kept_none, kept_next, kept_all}
+use Rattle.key.proofs.putting.put_kinds.Given as goal
+
+abbrev pub invariant-loop-kind : goal.invariant-loop-kind
+invariant-loop-kind l = (length l.out ≡ length l.initial.out) × Kept l.f l.initial.out l.out l.at l.kind
+
+abbrev pub decreases-loop-kind : goal.decreases-loop-kind
+decreases-loop-kind l = suc kinds - l.kind

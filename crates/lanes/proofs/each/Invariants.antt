@@ -1,0 +1,14 @@
+-- `lanes::each` meets its contract: at turn i the lanes below i have the number.
+use mathlib.Core.Path.{refl, ap, ◌∙◌}
+use Prim.Native.Nat.{ℕ, ◌-◌}
+use native.Mathlib.Omega.{arith}
+use borrow.Author.Rules.{rules}
+use Rattle.lanes.specs.EachLane.{by_lane}
+use Rattle.lanes.proofs.Filling.{Filled, filled_none, filled_more, filled_all}
+use Rattle.lanes.proofs.each.Given as goal
+
+abbrev pub invariant-loop-i : goal.invariant-loop-i
+invariant-loop-i l = Filled l.end (λ j. l.number) l.out l.i
+
+abbrev pub decreases-loop-i : goal.decreases-loop-i
+decreases-loop-i l = l.end - l.i

@@ -1,0 +1,28 @@
+-- The invariant: the count so far and that of the rest come to the whole.
+use borrow.Author.Rules.{rules}
+use mathlib.Core.Path.{◌≡◌}
+use mathlib.Core.Logic.{⊎_elim}
+use Prim.Native.Nat.{◌+◌, ◌-◌, ◌≤◌}
+use native.Mathlib.Omega.{arith}
+use lib.ListN.{length, drop}
+use Rattle.listing.specs.Text.{distinct}
+use Rattle.listing.proofs.Lines.{distinct_first, distinct_later, distinct_end}
+use Rattle.listing.proofs.table.count_distinct.Goals as goal
+
+pub loop-k-init : goal.loop-k-init
+loop-k-init c = (omega arith, (omega arith, omega arith))
+
+pub overflow_cast-firsts : goal.overflow_cast-firsts
+overflow_cast-firsts c = omega (arith, c.shared_slice_known-1.given c.loop-k.k)
+
+pub loop-k-preserved : goal.loop-k-preserved
+loop-k-preserved c =
+    let g = c.loop-k in
+    let t = c.loop-k-test.true in
+    ⊎_elim
+    (λ w. (omega arith, (omega arith, rw w.1 (distinct_first _ _ _ g.invariant.1.1 t w.0.taken))))
+    (λ w. (omega arith, (omega arith, rw w.1 (distinct_later _ _ _ g.invariant.1.1 t w.0.left))))
+    c.if-firsts-k.branch
+
+pub returns : goal.returns
+returns c = distinct_end _ _ _ c.loop-k.invariant.1.1 c.loop-k-test.false

@@ -1,0 +1,16 @@
+-- The invariant: the count so far and that of the rest come to the whole.
+use borrow.Author.Rules.{rules}
+use mathlib.Core.Path.{◌≡◌}
+use mathlib.Core.Logic.{⊎_elim}
+use Prim.Native.Nat.{◌+◌, ◌-◌, ◌≤◌}
+use native.Mathlib.Omega.{arith}
+use lib.ListN.{length, drop}
+use Rattle.listing.specs.Text.{distinct}
+use Rattle.listing.proofs.Lines.{distinct_first, distinct_later, distinct_end}
+use Rattle.listing.proofs.table.count_distinct.Given as goal
+
+abbrev pub invariant-loop-k : goal.invariant-loop-k
+invariant-loop-k l = (l.k ≤ length l.firsts) × ((l.d ≤ l.k) × (l.d + distinct (l.k + 1) (drop l.k l.firsts) ≡ distinct 1 l.firsts))
+
+abbrev pub decreases-loop-k : goal.decreases-loop-k
+decreases-loop-k l = length l.firsts - l.k

@@ -1,0 +1,11 @@
+-- The digits taken off, and those that are left, are all.
+use native.Mathlib.Omega.{arith}
+use Rattle.naming.proofs.Leading.{Taken, taken_none, taken_on, taken_some, taken_all}
+use borrow.Author.Rules.{rules}
+use Rattle.naming.proofs.numerals.places_of.Given as goal
+
+abbrev pub invariant-loop-left : goal.invariant-loop-left
+invariant-loop-left l = Taken l.n l.left l.spare
+
+abbrev pub decreases-loop-left : goal.decreases-loop-left
+decreases-loop-left l = l.left

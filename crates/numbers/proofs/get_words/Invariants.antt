@@ -1,0 +1,20 @@
+-- The invariant: the numbers that are left, got where the loop stands, give the whole result.
+use mathlib.Core.Path.{◌≡◌, refl, ◌∙◌}
+use Prim.Native.Nat.{◌-◌, ◌*◌, ◌≤◌}
+use native.Mathlib.Omega.{arith}
+use lib.ListN.{length, length-set}
+use borrow.Author.Rules.{rules}
+use borrow.Author.Rules.{part_to_end}
+use Rattle.numbers.specs.Numbers.{numbers_at}
+use Rattle.numbers.specs.Placed.{placed}
+use Rattle.numbers.proofs.Words.{get_none, get_on, get_done}
+use Rattle.numbers.proofs.get_words.Given as goal
+
+abbrev pub invariant-loop-k : goal.invariant-loop-k
+invariant-loop-k l =
+    (l.k ≤ length l.initial.words)
+    × (length l.words ≡ length l.initial.words)
+    × (placed l.words l.k (numbers_at l.rest (4 * l.k) (length l.initial.words - l.k)) ≡ numbers_at l.bytes l.at (length l.initial.words))
+
+abbrev pub decreases-loop-k : goal.decreases-loop-k
+decreases-loop-k l = length l.initial.words - l.k

@@ -1,0 +1,15 @@
+-- The invariant: what is left to put, put where the loop stands, gives the whole result.
+use mathlib.Core.Path.{◌≡◌, refl, sym, ◌∙◌}
+use Prim.Native.Nat.{◌≤◌, ◌-◌}
+use native.Mathlib.Omega.{arith}
+use lib.ListN.{length, get_or, drop, length-set}
+use borrow.Author.Rules.{rules}
+use Rattle.numbers.specs.Placed.{placed}
+use Rattle.numbers.proofs.Placing.{placed_out, placed_done, placed_on}
+use Rattle.numbers.proofs.put_bytes.Given as goal
+
+abbrev pub invariant-loop-i : goal.invariant-loop-i
+invariant-loop-i l = (l.i ≤ length l.bytes) × ((length l.out ≡ length l.initial.out) × (placed l.out l.q (drop l.i l.bytes) ≡ placed l.initial.out l.at l.bytes))
+
+abbrev pub decreases-loop-i : goal.decreases-loop-i
+decreases-loop-i l = length l.bytes - l.i

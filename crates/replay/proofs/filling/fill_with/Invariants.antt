@@ -1,0 +1,14 @@
+-- The first i words are filled, and the rest is as lent.
+use mathlib.Core.Path.{◌≡◌, refl}
+use Prim.Native.Nat.{◌-◌, ◌≤◌}
+use native.Mathlib.Omega.{arith}
+use lib.ListN.{length, length-set}
+use Rattle.ground.proofs.Fills.{filled_to, fill_turn, fill_end}
+use borrow.Author.Rules.{rules}
+use Rattle.replay.proofs.filling.fill_with.Given as goal
+
+abbrev pub invariant-loop-i : goal.invariant-loop-i
+invariant-loop-i l = (l.words ≡ filled_to l.value l.i l.initial.words) × ((length l.words ≡ length l.initial.words) × (l.i ≤ length l.initial.words))
+
+abbrev pub decreases-loop-i : goal.decreases-loop-i
+decreases-loop-i l = length l.initial.words - l.i

@@ -1,0 +1,6 @@
+-- Each way is a line of the definition.
+use borrow.Author.Rules.{rules}
+use Rattle.replay.proofs.refusing.refuse_unless.Goals as goal
+
+pub returns-else-ok : goal.returns-else-ok
+returns-else-ok c = rw c.if-ok.false

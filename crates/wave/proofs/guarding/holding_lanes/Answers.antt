@@ -1,0 +1,15 @@
+-- Each predicate by its number; a number that is none of the three holds at the active lanes.
+use Rattle.std.proofs.Common.{ne_eqb}
+use Rattle.wave.proofs.guarding.holding_lanes.Goals as goal
+
+pub returns-in-1 : goal.returns-in-1
+returns-in-1 c = rw c.in-1.is
+
+pub returns-in-2 : goal.returns-in-2
+returns-in-2 c = rw c.in-2.is
+
+pub returns-in-3 : goal.returns-in-3
+returns-in-3 c = rw c.in-3.is
+
+pub returns-in_default : goal.returns-in_default
+returns-in_default c = let r = c.in_default.rest in simp (ne_eqb _ 1 r.0.0.1, ne_eqb _ 2 r.0.1, ne_eqb _ 3 r.1)

@@ -1,0 +1,6 @@
+-- The fields of word 0 are those of `headed`, with the guard's answer put in.
+use borrow.Author.Rules.{rules}
+use Rattle.words.proofs.reading.headed.Goals as goal
+
+pub returns : goal.returns
+returns c = rw c.guard_in.ensures
