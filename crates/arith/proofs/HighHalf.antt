@@ -67,7 +67,7 @@ module _ {a b : ℕ} {x y : ℤ} (p : Read a x) (q : Read b y) where
   shifted : wide (shr_z (wide (wide x *ℤ wide y)) (2 ^ 32)) ≡ shr_z (signed a *ℤ signed b) (2 ^ 32)
   shifted =
       rw (multiplied, to_z-of_z (product_fits a b p.fits q.fits))
-      (to_z-of_z (sfits_widen tt (half_fits a b p.fits q.fits)))
+      (to_z-of_z {w = w64} (sfits_widen (tt {0}) (half_fits a b p.fits q.fits)))
 
   pub asked_product : SFits w64 (wide x *ℤ wide y)
   asked_product = rw multiplied (product_fits a b p.fits q.fits)

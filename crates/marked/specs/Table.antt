@@ -127,7 +127,7 @@ table =
     ∷ entry (reading (0x3F000005 ∷ [])) (one (Op.Control ControlOp.If) 1 true 0 0 0 0 1)
     ∷ entry (reading (0x3F000004 ∷ [])) (refusal Rule.field)
     ∷ entry (reading (0x3F000041 ∷ [])) (one (Op.Control ControlOp.Break) 1 false 0 0 0 0 1)
-    ∷ entry (reading (0x3F000070 ∷ [])) (refusal Rule.not-Carried)
+    ∷ entry (reading (0x3F000070 ∷ [])) (refusal Rule.not_carried)
     -- T7 to T11; T10 and T11 by page 02, which makes MULHI signed and a sum that reaches 2^32 a fault
     ∷ entry (operation TwoOp.Div 0xFFFFFFF9 2) (value 0xFFFFFFFD)
     ∷ entry (operation TwoOp.Rem 0xFFFFFFF9 2) (value 0xFFFFFFFF)

@@ -37,7 +37,7 @@ module _ (ws : List ℕ) (at : ℕ) where
     within = rw (drop-cons ws at 0 here)
 
     -- an operation that is not carried
-    pub missing : op_of (opcode_in (get_or ws at 0)) (modifier_in (get_or ws at 0)) ≡ FoundOp.Missing → read_at ws at ≡ refused Rule.not-Carried at
+    pub missing : op_of (opcode_in (get_or ws at 0)) (modifier_in (get_or ws at 0)) ≡ FoundOp.Missing → read_at ws at ≡ refused Rule.not_carried at
     missing e = within ∙ rw e
 
     module _ (o : Op) (named : op_of (opcode_in (get_or ws at 0)) (modifier_in (get_or ws at 0)) ≡ FoundOp.Carried o) where

@@ -21,7 +21,7 @@ read_fields o l w v at =
 
 -- the word w and those after it, once its operation has been looked up
 abbrev pub read_op : FoundOp → ℕ → List ℕ → ℕ → ReadAnswer
-read_op FoundOp.Missing w ws at = refused Rule.not-Carried at
+read_op FoundOp.Missing w ws at = refused Rule.not_carried at
 read_op (FoundOp.Carried o) w ws at =
     cond (ltb (suc (length ws)) (size o)) (refused Rule.no_second at) (read_fields o (limits_of o) w (get_or ws 0 0) at)
 

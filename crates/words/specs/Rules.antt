@@ -48,7 +48,7 @@ pub record Allowed (l : Limits) (w v : ℕ) : Type 0 where
 -- the first rule that the words at a place break, there
 pub data Breaks (ws : List ℕ) (at : ℕ) : Refusal → Type 0 where
   -- a word that names no operation
-  no_operation : at < length ws → ((o : Op) → Names ws at o → ⊥) → Breaks ws at (broken Rule.not-Carried at)
+  no_operation : at < length ws → ((o : Op) → Names ws at o → ⊥) → Breaks ws at (broken Rule.not_carried at)
   -- no word at all
   no_word : length ws ≤ at → Breaks ws at (broken Rule.no_second at)
   -- the word names an operation that has more words than there are

@@ -8,7 +8,7 @@ pub returns-in-Two : goal.returns-in-Two
 returns-in-Two c = c.carry_two.ensures _ _
 
 pub returns-in-Compare : goal.returns-in-Compare
-returns-in-Compare c = absurd (c.requires.1 _ c.in-Compare.is)
+returns-in-Compare c p = absurd (c.requires.1 _ c.in-Compare.is)
 
 pub returns-in-One : goal.returns-in-One
 returns-in-One c = c.carry_one.ensures _ _
@@ -38,6 +38,6 @@ pub returns-in-Shuffle : goal.returns-in-Shuffle
 returns-in-Shuffle c = c.carry_shuffle.ensures _ _
 
 pub returns-in-Control : goal.returns-in-Control
-returns-in-Control c =
+returns-in-Control c p =
     let a = c.args in
     arm_control a.shape a.x a.t p a.regs.now a.device.now a.local.now _ c.in-Control.is _ c.no_faults-in-Control.ensures

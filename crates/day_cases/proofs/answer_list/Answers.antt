@@ -9,5 +9,5 @@ use Rattle.day_cases.proofs.answer_list.Goals as goal
 pub slice_bounds-write_all-end : goal.slice_bounds-write_all-end
 slice_bounds-write_all-end c =
     let t = c.list-n.new.out in
-    let l : length t ≡ 176000 = c.list-n.auto.1.0 in
+    let l : length t ≡ 176000 = c.list-n.auto.out in
     sym (length-take-le _ t (omega arith))

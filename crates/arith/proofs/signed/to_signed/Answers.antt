@@ -12,4 +12,5 @@ overflow_sub-result-else-x-lt-LEAST c =
 
 pub returns-else-x-lt-LEAST : goal.returns-else-x-lt-LEAST
 returns-else-x-lt-LEAST c =
-    to_z-of_z (sub-result-2 c) ∙ upper_made c.args.x c.if-x-lt-LEAST.false c.ranges.x.fits
+    to_z-of_z ((subst⁻¹ (λ (z : ℤ). SFits w32 z) (upper_made c.args.x c.if-x-lt-LEAST.false c.ranges.x.fits)
+    (sfits_to_z c.ranges.x))) ∙ upper_made c.args.x c.if-x-lt-LEAST.false c.ranges.x.fits

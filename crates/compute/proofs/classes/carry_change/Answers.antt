@@ -20,14 +20,14 @@ pub write_results-requires : goal.write_results-requires
 write_results-requires c = (ready_change c.args.change c.requires).rd
 
 pub returns-then-is_clear : goal.returns-then-is_clear
-returns-then-is_clear c =
+returns-then-is_clear c local p =
     let a = c.args in
     arm_change a.shape a.x a.t p a.regs.now a.device.now local a.change c.requires _ c.desired-rs3.ensures _ c.gather-at.ensures
-    _ ((let at_register_low : get_or c.args.regs.now k 0 < 2 ^ 32 = λ k. omega (arith, c.slice_known-1.given k) in at_register_low)) c.address_faults-faults.ensures _ c.is_clear.ensures _ _ _ _ c.if-is_clear.true c.change_lanes-value.ensures.0
+    _ ((let at_register_low : (k : ℕ) → get_or c.args.regs.now k 0 < 2 ^ 32 = λ k. omega (arith, c.slice_known-1.given k) in at_register_low)) c.address_faults-faults.ensures _ c.is_clear.ensures _ _ _ _ c.if-is_clear.true c.change_lanes-value.ensures.0
     c.change_lanes-value.ensures.1 c.write_results.ensures
 
 pub returns : goal.returns
-returns c =
+returns c local p =
     let a = c.args in
     arm_unchanged a.shape a.x a.t p a.regs.now a.device.now local a.change c.requires _ c.desired-rs3.ensures _
-    c.gather-at.ensures _ ((let at_register_low : get_or c.args.regs.now k 0 < 2 ^ 32 = λ k. omega (arith, c.slice_known-1.given k) in at_register_low)) c.address_faults-faults.ensures _ c.is_clear.ensures c.if-is_clear.false
+    c.gather-at.ensures _ ((let at_register_low : (k : ℕ) → get_or c.args.regs.now k 0 < 2 ^ 32 = λ k. omega (arith, c.slice_known-1.given k) in at_register_low)) c.address_faults-faults.ensures _ c.is_clear.ensures c.if-is_clear.false

@@ -14,13 +14,13 @@ pub load_through-requires-in-Local : goal.load_through-requires-in-Local
 load_through-requires-in-Local c = ready_as c.requires (ap Op.Load c.in-Local.is)
 
 pub returns-in-Device : goal.returns-in-Device
-returns-in-Device c =
+returns-in-Device c p =
     let a = c.args in
     arm_load a.shape a.x a.t p a.regs.now a.device.now a.local.now Space.Device
     (ready_as c.requires (ap Op.Load c.in-Device.is)) _ _ c.load_through.ensures
 
 pub returns-in-Local : goal.returns-in-Local
-returns-in-Local c =
+returns-in-Local c p =
     let a = c.args in
     arm_load a.shape a.x a.t p a.regs.now a.device.now a.local.now Space.Local
     (ready_as c.requires (ap Op.Load c.in-Local.is)) _ _ c.load_through-in-Local.ensures

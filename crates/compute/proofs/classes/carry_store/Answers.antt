@@ -13,13 +13,13 @@ pub store_through-requires-in-Local : goal.store_through-requires-in-Local
 store_through-requires-in-Local c = ready_as c.requires (ap Op.Store c.in-Local.is)
 
 pub returns-in-Device : goal.returns-in-Device
-returns-in-Device c =
+returns-in-Device c p =
     let a = c.args in
     arm_store_device a.shape a.x a.t p a.regs.now a.device.now a.local.now
     (ready_as c.requires (ap Op.Store c.in-Device.is)) _ _ c.store_through.ensures
 
 pub returns-in-Local : goal.returns-in-Local
-returns-in-Local c =
+returns-in-Local c p =
     let a = c.args in
     arm_store_local a.shape a.x a.t p a.regs.now a.device.now a.local.now
     (ready_as c.requires (ap Op.Store c.in-Local.is)) _ _ c.store_through-in-Local.ensures

@@ -15,7 +15,7 @@ pub write_results-requires : goal.write_results-requires
 write_results-requires c = ready_rd c.requires refl
 
 pub returns : goal.returns
-returns c =
+returns c device local p =
     let a = c.args in
     arm_two a.shape a.x a.t p a.regs.now device local _ _ _ _ c.write_results.ensures a.op c.requires c.dividing_faults-faults.ensures
     c.two_results-value.ensures

@@ -21,7 +21,7 @@ pub returns-then-all_reach : goal.returns-then-all_reach
 returns-then-all_reach c =
     let a = c.args in
     c.no_faults.ensures
-    ∙ all_in_reach a.space c.narrowed-end.result a.t c.nameable-named.result a.offset a.at ((let at_few : c.nameable-named.result ≤ 0x40000000 = omega (arith, c.nameable-named.ensures) in at_few)) ((let at_low : get_or c.args.at i 0 < 2 ^ 32 = λ i. let f : Fits w32 (get_or c.args.at i 0) = search rules in f.fits in at_low)) c.ranges.offset.fits ((let at_wide : c.narrowed-end.result ≤ length c.args.at = let e : length c.args.at ≡ widest = search rules in omega (arith, e, c.narrowed-end.ensures) in at_wide))
+    ∙ all_in_reach a.space c.narrowed-end.result a.t c.nameable-named.result a.offset a.at ((let at_few : c.nameable-named.result ≤ 0x40000000 = omega (arith, c.nameable-named.ensures) in at_few)) ((let at_low : (i : ℕ) → get_or c.args.at i 0 < 2 ^ 32 = λ i. let f : Fits w32 (get_or c.args.at i 0) = search rules in f.fits in at_low)) c.ranges.offset.fits ((let at_wide : c.narrowed-end.result ≤ length c.args.at = let e : length c.args.at ≡ widest = search rules in omega (arith, e, c.narrowed-end.ensures) in at_wide))
     (sym c.all_reach.ensures ∙ c.if-all_reach.true)
     ∙ (let at_same : let a = c.args in
     address_faults a.space c.narrowed-end.result a.at a.offset c.nameable-named.result a.t
@@ -30,7 +30,7 @@ returns-then-all_reach c =
     ∙ narrow_kinds a.width a.t _ c.narrowed-end.result c.narrowed-end.ensures c.ranges.t.fits in at_same)
 
 pub returns-in-Device : goal.returns-in-Device
-returns-in-Device c = c.each_kind.ensures ∙ (let at_found : let a = c.args in a.space ≡ s
+returns-in-Device c = c.each_kind.ensures ∙ (let at_found : (s : Space) → let a = c.args in a.space ≡ s
     → address_faults s c.narrowed-end.result a.at a.offset c.nameable-named.result a.t
     ≡ address_faults a.space a.width a.at a.offset a.words a.t = λ s e. rw (sym e) ((let at_same : let a = c.args in
     address_faults a.space c.narrowed-end.result a.at a.offset c.nameable-named.result a.t
@@ -39,7 +39,7 @@ returns-in-Device c = c.each_kind.ensures ∙ (let at_found : let a = c.args in 
     ∙ narrow_kinds a.width a.t _ c.narrowed-end.result c.narrowed-end.ensures c.ranges.t.fits in at_same)) in at_found) Space.Device c.in-Device.is
 
 pub returns-in-Local : goal.returns-in-Local
-returns-in-Local c = c.each_kind-in-Local.ensures ∙ (let at_found : let a = c.args in a.space ≡ s
+returns-in-Local c = c.each_kind-in-Local.ensures ∙ (let at_found : (s : Space) → let a = c.args in a.space ≡ s
     → address_faults s c.narrowed-end.result a.at a.offset c.nameable-named.result a.t
     ≡ address_faults a.space a.width a.at a.offset a.words a.t = λ s e. rw (sym e) ((let at_same : let a = c.args in
     address_faults a.space c.narrowed-end.result a.at a.offset c.nameable-named.result a.t

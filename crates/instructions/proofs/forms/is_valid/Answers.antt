@@ -6,4 +6,4 @@ use borrow.Author.Rules.{rules}
 use Rattle.instructions.proofs.forms.is_valid.Goals as goal
 
 pub returns : goal.returns
-returns c = c.fits2.ensures ∙ ap (λ (l : Limits). fits l c.args.instr) c.limits_of.ensures
+returns c = c.fits.ensures ∙ ap (λ (l : Limits). fits l c.args.instr) c.limits_of.ensures

@@ -8,4 +8,4 @@ returns-in-Refused c = stops c.test_launch-launch.ensures _ c.in-Refused.is
 
 pub returns-in-Fine : goal.returns-in-Fine
 returns-in-Fine c =
-    goes_on c.test_launch-launch.ensures _ c.in-Fine.is (rw (c.refuse_unless.ensures, c.fits2.ensures, c.reading_of.ensures))
+    goes_on c.test_launch-launch.ensures _ c.in-Fine.is (rw (c.refuse_unless.ensures, c.fits.ensures, c.reading_of.ensures))

@@ -21,11 +21,11 @@ returns-in_default c =
     sym (missing _ _ c.if-words-at.false (sym c.op_of-found.ensures ∙ c.in_default.is))
 
 pub returns-then-words-at-2 : goal.returns-then-words-at-2
-returns-then-words-at-2 c = sym (short _ _ ((let at_here : (c.args.at) < length ((c.args.words.now)) = c.if-words-at.false in at_here)) ((c.in-Carried.op)) ((let at_named : op_of (opcode_in (get_or ((c.args.words.now)) ((c.args.at)) 0)) (modifier_in (get_or ((c.args.words.now)) ((c.args.at)) 0)) ≡ FoundOp.Carried ((c.in-Carried.op)) = sym c.op_of-found.ensures ∙ c.in-Carried.is in at_named)) (rw ((let at_size_is : c.size_of.result ≡ size_of (limits_of ((c.in-Carried.op))).second = c.size_of.ensures ∙ ap (λ (l : Limits). size_of l.second) c.limits_of-limits.ensures in at_size_is)) at c.if-words-at-2.true))
+returns-then-words-at-2 c = sym (short _ _ ((let at_here : c.args.at < length c.args.words.now = c.if-words-at.false in at_here)) c.in-Carried.op ((let at_named : op_of (opcode_in (get_or c.args.words.now c.args.at 0)) (modifier_in (get_or c.args.words.now c.args.at 0)) ≡ FoundOp.Carried c.in-Carried.op = sym c.op_of-found.ensures ∙ c.in-Carried.is in at_named)) (rw ((let at_size_is : c.size_of.result ≡ size_of (limits_of c.in-Carried.op).second = c.size_of.ensures ∙ ap (λ (l : Limits). size_of l.second) c.limits_of-limits.ensures in at_size_is)) at c.if-words-at-2.true))
 
 pub returns : goal.returns
 returns c =
     c.read_fields.ensures
     ∙ sym
-    (whole ((c.args.words.now)) ((c.args.at)) ((let at_here : (c.args.at) < length ((c.args.words.now)) = c.if-words-at.false in at_here)) ((c.in-Carried.op)) ((let at_named : op_of (opcode_in (get_or ((c.args.words.now)) ((c.args.at)) 0)) (modifier_in (get_or ((c.args.words.now)) ((c.args.at)) 0)) ≡ FoundOp.Carried ((c.in-Carried.op)) = sym c.op_of-found.ensures ∙ c.in-Carried.is in at_named)) c.limits_of-limits.result c.word_at-word.result c.limits_of-limits.ensures
-    c.word_at-word.ensures (rw ((let at_size_is : c.size_of.result ≡ size_of (limits_of ((c.in-Carried.op))).second = c.size_of.ensures ∙ ap (λ (l : Limits). size_of l.second) c.limits_of-limits.ensures in at_size_is)) at c.if-words-at-2.false))
+    (whole c.args.words.now c.args.at ((let at_here : c.args.at < length c.args.words.now = c.if-words-at.false in at_here)) c.in-Carried.op ((let at_named : op_of (opcode_in (get_or c.args.words.now c.args.at 0)) (modifier_in (get_or c.args.words.now c.args.at 0)) ≡ FoundOp.Carried c.in-Carried.op = sym c.op_of-found.ensures ∙ c.in-Carried.is in at_named)) c.limits_of-limits.result c.word_at-word.result c.limits_of-limits.ensures
+    c.word_at-word.ensures (rw ((let at_size_is : c.size_of.result ≡ size_of (limits_of c.in-Carried.op).second = c.size_of.ensures ∙ ap (λ (l : Limits). size_of l.second) c.limits_of-limits.ensures in at_size_is)) at c.if-words-at-2.false))

@@ -4,7 +4,7 @@ use Rattle.std.proofs.Common.{rules}
 use Rattle.control.proofs.rules.aside.aside_rule.Goals as goal
 
 pub returns : goal.returns
-returns c = let s = c.args in
+returns c f joins = let s = c.args in
     let found = c.leave_inner-l.ensures in
     set_aside f s.t s.number joins {h = s.h}
     (record { long = c.whole.ensures; depth = c.depth_of.ensures; place = c.after_place.ensures }) _ _ _ _
