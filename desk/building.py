@@ -4,11 +4,12 @@ import fcntl
 import os
 import re
 import selectors
+import shutil
 import subprocess
 
 from desk import running, streams
 from desk.freshness import is_fresh, kit, note, plan, sources
-from desk.home import BIN, CRATES_TXT, HOME
+from desk.home import BIN, CRATES, CRATES_TXT
 from desk.status import Stopped, Trouble
 
 # A check that finds nothing changed takes less than these seconds, and isn't told of.
@@ -52,27 +53,36 @@ def lock():
 
 
 def build(program, held):
-    """Proves and builds a program. What the prover says goes to a log; a line counts the crates.
+    """Proves and builds a program, and takes it. What the prover says goes to a log; a line counts the crates.
 
-    rt has the lock's file too, so that it is held as long as rt runs, even where this process is killed.
+    rt run starts what it has built: with no word and no input, which gives it nothing to do, and how it ends doesn't count. rt has the lock's
+    file too, so that it is held as long as rt runs, even where this process is killed.
     """
     BIN.mkdir(parents=True, exist_ok=True)
     log = BIN.parent / f'{program}.log'
-    words = ['rt', 'check', program]
     try:
-        with log.open('wb') as text, running.started(words, cwd=HOME, pass_fds=[held], stdin=subprocess.DEVNULL, stdout=subprocess.PIPE,
-                                                     stderr=subprocess.STDOUT) as rt, rt.stdout:
-            follow(rt, program, text)
-            status = rt.wait()
+        with log.open('wb') as text, running.started(['rt', 'run'], cwd=CRATES / program, pass_fds=[held], stdin=subprocess.DEVNULL,
+                                                     stdout=subprocess.PIPE, stderr=subprocess.STDOUT) as rt, rt.stdout:
+            is_built = follow(rt, program, text)
+            rt.wait()
     except Stopped:
         streams.say(f'stopped while {program} was built; what is proved stays proved')
         raise
-    if status != 0 or not (BIN / program).exists():
+    if not is_built:
         raise Trouble(f'{program} was not built: what the prover said is in {log}')
+    take(program)
+
+
+def take(program):
+    """Puts the program that rt left in its crate's folder where the front has its programs, whole: rt ci clears the crates' folders."""
+    BIN.mkdir(parents=True, exist_ok=True)
+    new = BIN / f'{program}.new'
+    shutil.copy(CRATES / program / 'out' / program, new)
+    os.replace(new, BIN / program)
 
 
 def follow(rt, program, log):
-    """Copies what rt says to the log until it ends, and tells how far it is."""
+    """Copies what rt says to the log until it ends, and tells how far it is; answers whether the program was built."""
     counter = Counter(program)
     rest = b''
     with selectors.DefaultSelector() as ready:
@@ -89,6 +99,7 @@ def follow(rt, program, log):
             for line in lines:
                 counter.read(line)
     counter.clear()
+    return counter.is_built
 
 
 class Counter:
@@ -98,8 +109,10 @@ class Counter:
         self.program = program
         self.crates = plan(program)
         self.done = 0
+        self.is_built = False
         self.on_terminal = streams.is_terminal(streams.ERROR)
         self.told = False
+        self.shown = None
         self.show()
 
     def line(self):
@@ -107,15 +120,20 @@ class Counter:
         return f'proving {self.done + 1} of {len(self.crates)}: {self.crates[self.done]}'
 
     def show(self):
-        """Writes the line over, on a terminal, while crates are left."""
-        if self.on_terminal and self.done < len(self.crates):
+        """Writes the line over, on a terminal, where it is another and crates are left."""
+        if self.on_terminal and self.done < len(self.crates) and self.shown != self.done:
             streams.show(f'\r\x1b[K{self.line()}')
+            self.shown = self.done
 
     def read(self, line):
-        """Counts the crate that a line of rt's tells of."""
-        if re.match(rb'rt: \w+ (proved|NOT PROVED)', line):
-            self.done += 1
+        """Counts by a line of rt's: that a crate is begun, that it is proved, or that the program is built and started."""
+        begun, proved = re.match(rb'rt: chose --jobs \d+ for (\w+)', line), re.match(rb'crate (\w+): modules ', line)
+        told = begun or proved
+        crate = told and told[1].decode()
+        if crate in self.crates:
+            self.done = self.crates.index(crate) + bool(proved)
             self.show()
+        self.is_built = self.is_built or line.startswith(f'rt: running out/{self.program};'.encode())
 
     def tell_slow(self, log):
         """Says once, where there is no terminal, that this takes long."""

@@ -42,15 +42,16 @@ def dependencies():
 
 def plan(program):
     """The crates that a program is made of, each behind those it needs, in the order in which rt proves them."""
-    crates, levels = dependencies(), {}
+    crates, found = dependencies(), []
 
-    def level(name):
-        if name not in levels:
-            needs = [level(need) for need in crates[name] if need in crates]
-            levels[name] = 1 + max(needs, default=0)
-        return levels[name]
-    level(program)
-    return sorted(levels, key=levels.get)
+    def add(name):
+        if name not in found:
+            for need in crates[name]:
+                if need in crates:
+                    add(need)
+            found.append(name)
+    add(program)
+    return found
 
 
 def sources(program):

@@ -2,6 +2,7 @@
 from pathlib import Path
 
 HOME = Path(__file__).resolve().parent.parent
+# Where the front keeps its programs.
 BIN = HOME / 'target' / 'bin'
 CRATES = HOME / 'crates'
 CRATES_TXT = HOME / 'crates.txt'

@@ -35,6 +35,8 @@ def proved(program, *arguments):
     if kit is None:
         raise Trouble(f'rt, which has the emulator for {machine}, is not found')
     tools = kit / 'on' / machine / 'toolchain'
+    if not tools.exists():
+        raise Trouble(f'the programs are for x86-64, and this toolchain has no emulator for {machine}')
     loader = [str(tools / 'lib' / 'ld-linux-x86-64.so.2'), '--library-path', str(tools / 'lib')]
     return [str(tools / 'bin' / 'qemu-x86_64'), '-s', str(STACK), *loader, path, *arguments]
 

@@ -5,25 +5,34 @@ import shutil
 import signal
 import stat
 import subprocess
+import sys
 import time
 import unittest
 
 from support import PATIENCE, ROOT, InFolder
 
-# Builds a program that prints what its sources were, and says what rt says. It notes each call, and waits for a file named `slow` to go.
+# Builds a program that prints what its sources were, in its crate's folder, and says what rt says. It notes each call, and waits for a file
+# named `slow` to go. At last it is as if the program had been started and had ended with a status of its own, which isn't rt's.
 RT = """\
 #!/bin/sh
-echo "$*" >> calls
-[ "$1" = check ] || exit 2
-echo 'rt: low proved (1 s)'
+program="$(basename "$PWD")"
+cd ../..
+echo "$* in $program" >> calls
+[ "$*" = run ] || exit 2
+echo 'rt: chose --jobs 2 for low'
+echo 'crate low: modules loaded=3 checked=2'
 while [ -e slow ]; do sleep 0.05; done
 echo 'logic=proved and much more text'
-grep -q broken crates/*/src/* && { echo "rt: $2 NOT PROVED (exit 1, 1 s)"; exit 1; }
-mkdir -p target/bin
-{ echo '#!/bin/sh'; echo 'cat > /dev/null'; cat crates/low/src/lib.rt crates/"$2"/src/main.rt | sed 's/^/echo /'; } > target/bin/"$2"
-chmod +x target/bin/"$2"
-echo "rt: middle proved (unchanged since it was last proved)"
-echo "rt: $2 proved (1 s)"
+grep -q broken crates/*/src/* && { echo 'error: not proved'; exit 1; }
+echo 'crate middle: modules loaded=3 checked=1'
+out="crates/$program/out"
+mkdir -p "$out"
+{ echo '#!/bin/sh'; echo 'cat > /dev/null'; cat crates/low/src/lib.rt "crates/$program/src/main.rt" | sed 's/^/echo /'; } > "$out/$program"
+chmod +x "$out/$program"
+echo "rt: chose --jobs 2 for $program"
+echo "crate $program: modules loaded=3 checked=1"
+echo "rt: running out/$program; to give it other input, run that file yourself"
+exit 3
 """
 
 # The emulator's place: it drops the words that come before the program.
@@ -81,6 +90,10 @@ class Checkout(InFolder):
         ran = self.run_front()
         self.assertEqual(('\n'.join(lines) + '\n', ''), (ran.stdout.decode(), ran.stderr.decode()))
 
+    def run_rt(self):
+        """Has rt build the program with no word of the front's."""
+        subprocess.run(['rt', 'run'], cwd=self.home / 'crates' / 'list_day', env=self.environment(), stdout=subprocess.DEVNULL)
+
     def calls(self):
         """How often rt was called."""
         path = self.home / 'calls'
@@ -101,7 +114,7 @@ class Fresh(Checkout):
         self.prints('low 1', 'list_day 1')
         self.prints('low 1', 'list_day 1')
         self.assertEqual(1, self.calls())
-        self.assertEqual('check list_day\n', (self.home / 'calls').read_text())
+        self.assertEqual('run in list_day\n', (self.home / 'calls').read_text())
 
     def test_log(self):
         self.prints('low 1', 'list_day 1')
@@ -140,10 +153,10 @@ class Fresh(Checkout):
         """A program that rt built from other sources in between isn't taken for the old one."""
         self.prints('low 1', 'list_day 1')
         self.write('low', 'low 2\n')
-        subprocess.run(['rt', 'check', 'list_day'], cwd=self.home, env=self.environment(), stdout=subprocess.DEVNULL)
+        self.run_rt()
         self.write('low', 'low 1\n')
         self.prints('low 1', 'list_day 1')
-        self.assertEqual(3, self.calls())
+        self.assertEqual(2, self.calls())
 
     def test_a_change_while_it_is_built(self):
         """What was changed meanwhile is not taken for what was built."""
@@ -158,7 +171,7 @@ class Fresh(Checkout):
         self.assertEqual(2, self.calls())
 
     def test_built_by_rt_itself(self):
-        subprocess.run(['rt', 'check', 'list_day'], cwd=self.home, env=self.environment(), stdout=subprocess.DEVNULL)
+        self.run_rt()
         self.prints('low 1', 'list_day 1')
         self.prints('low 1', 'list_day 1')
         self.assertEqual(2, self.calls())
@@ -169,6 +182,43 @@ class Fresh(Checkout):
         ran = self.run_front()
         self.assertEqual(b'', ran.stdout)
         self.says(ran, 1, f'list_day was not built: what the prover said is in {self.home}/target/list_day.log')
+
+
+class Taken(Checkout):
+    """What rt ci built is taken as made from what was checked out before it."""
+
+    def setUp(self):
+        super().setUp()
+        programs = self.home / 'desk' / 'programs.py'
+        programs.write_text(programs.read_text().replace("PROVED = ('replay_capture', 'make_day', 'list_day', 'agree')", "PROVED = ('list_day',)"))
+
+    def taking(self, word, lines=b''):
+        words = [sys.executable, '-m', 'desk.taking', word]
+        ran = subprocess.run(words, cwd=self.home, env=self.environment(), input=lines, capture_output=True, timeout=PATIENCE)
+        self.assertEqual((0, b''), (ran.returncode, ran.stderr))
+        return ran.stdout
+
+    def test_nothing_changed(self):
+        said = self.taking('say')
+        self.run_rt()
+        self.assertEqual(b'', self.taking('take', said))
+        self.prints('low 1', 'list_day 1')
+        self.assertEqual(1, self.calls())
+
+    def test_a_change_meanwhile(self):
+        said = self.taking('say')
+        self.run_rt()
+        self.write('low', 'low 2\n')
+        self.taking('take', said)
+        self.prints('low 2', 'list_day 1')
+        self.assertEqual(2, self.calls())
+
+    def test_cleared(self):
+        """rt ci clears the crates' folders; what was taken stays."""
+        self.prints('low 1', 'list_day 1')
+        shutil.rmtree(self.home / 'crates' / 'list_day' / 'out')
+        self.prints('low 1', 'list_day 1')
+        self.assertEqual(1, self.calls())
 
 
 class WithoutToolchain(Checkout):
