@@ -8,8 +8,9 @@ It reads README.md, CONTRIBUTING.md and docs/*.md except the pages, and goes by 
   same crate, and a bare name of the same file;
 - `crate/edit` and `crate::module::function`; paths of the repository, where a word in capitals stands for any name;
 - in docs/PROMISES.md, the cells of a table by their column's title, for the crates that the section's title names;
-- in the documents on proofs, each single word, and in a statement each word with a capital inside it: it is something that the crates declare,
-  or one of OTHERS below. The others also name files and words of a user's own: there only what begins as something of the project does is held.
+- in the documents on proofs, each single word, and in a statement, also one that stands apart, each name of more than one word: it is something
+  that the crates declare, or one of OTHERS below. The others also name files and words of a user's own: there only what begins as something of
+  the project does is held.
 """
 import re
 import sys
@@ -22,14 +23,15 @@ STRICT = {'DEMANDS.md', 'PROMISES.md', 'ARCHITECTURE.md', 'DECISIONS.md', 'CONTR
 # Words of the language, of its library and of tools.
 OTHERS = {
     'requires', 'ensures', 'specs/', 'src/', 'proofs/', 'must-fail/', 'target/', 'rt', 'cargo', 'python3', 'stdin', 'stdout', 'omega', 'simp',
-    'rw', 'cc', 'bitOr', 'bitAnd', 'min', 'crate', 'File.name',
+    'rw', 'cc', 'bit_or', 'bit_and', 'min', 'crate', 'File.name',
     'slices', 'pN', 'libc', 'os',
 }
-FILE_NAME = re.compile(r"[A-Z]\w*\.[\w′-]+")
+FILE_NAME = re.compile(r"[A-Z]\w*\.[\w'-]+")
 PATH = re.compile(r'[\w.*-]+(/[\w.*-]+)*/?')
 ENDING = re.compile(r'\.(md|py|txt|rs|rt|antt|edit)$')
-WORD = re.compile(r"[A-Za-z_][\w′-]*")
-INNER_CAPITAL = re.compile(r"(?<![\w.′-])[a-z]+[A-Z][\w′-]*")
+WORD = re.compile(r"[A-Za-z_][\w'-]*")
+# A name of more than one word, in a statement.
+INNER = re.compile(r"(?<![\w.:'-])[a-z][a-z0-9]*(?:_|[A-Z])[\w'-]*")
 
 
 class Reader:
@@ -54,6 +56,8 @@ class Reader:
                 fenced = not fenced
             elif not fenced:
                 self.line(number, line)
+            elif self.strict:
+                self.statement(number, line)
         return self.faults
 
     def line(self, number, line):
@@ -153,8 +157,8 @@ class Reader:
         return self.strict or self.crate or any(name in crate.files for crate in self.crates.values())
 
     def statement(self, number, span):
-        """The words with a capital inside them are declared somewhere."""
-        for word in INNER_CAPITAL.findall(span):
+        """The names of more than one word are declared somewhere."""
+        for word in INNER.findall(span):
             if not self.known(word):
                 self.fault(number, f"nothing is named '{word}'")
 
@@ -195,11 +199,17 @@ class Reader:
         here = self.here()
         if any(span in crate.files for crate in here):
             self.files.append(span)
-        elif '-' in span and self.files:
+        elif re.search('[-_]', span) and self.files and self.is_law(span):
             if not any(span in crate.files.get(file, ()) for crate in here or self.crates.values() for file in self.files):
                 self.fault(number, f"no '{span}' in {' or '.join(self.files)} of {self.crate or 'any crate'}")
         elif len(span) > 1 and not self.known(span) and not self.path_exists(span):
             self.fault(number, f"nothing is named '{span}'")
+
+    def is_law(self, span):
+        """Whether this is a law's name and, where a crate is named, nothing else of that crate's."""
+        every = self.crates.values()
+        own = [crate for crate in self.here() if crate.anywhere(span, crate.functions)]
+        return all(crate.is_law_alone(span) for crate in own) if own else any(crate.is_law_alone(span) for crate in every)
 
     def here(self):
         """The crate named last, or those of the section's title."""
@@ -209,7 +219,7 @@ class Reader:
         """Whether something has this name: any crate's, or a private function of the crate named last."""
         here = self.here()
         every = self.crates.values()
-        return word in OTHERS or any(crate.anywhere(word, crate.functions if crate in here else crate.public) for crate in every)
+        return word in OTHERS or word in self.crates or any(crate.anywhere(word, crate.functions if crate in here else crate.public) for crate in every)
 
 
 def spans(text):

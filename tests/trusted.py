@@ -1,7 +1,7 @@
 #!/usr/bin/env python3
 """Holds that what a reader must believe is told apart from the rest by its file: each file of specs/ is named in the table of docs/DEMANDS.md, or
-its first line says that it is a test, which theorems hold to the page's words, or a step of the proofs. Steps are used by steps alone.
---check says each file that breaks this, and fails."""
+its first line says that it is a test, which theorems hold to the page's words, or a step of the proofs. Steps, and what a crate's proofs/ has, are
+used by steps alone. --check says each file that breaks this, and fails."""
 import re
 import sys
 
@@ -9,7 +9,7 @@ from lib.stored import ROOT
 
 STEP = '-- A step of the proofs: nothing that is said to the reader rests on this file.'
 TEST = "-- A test: theorems hold it to the page's words, as "
-USED = re.compile(r'^use Rattle·(\w+)(?:·specs\.specs|\.specs)\.(\w+)\.', re.MULTILINE)
+USED = re.compile(r'^\s*(?:pub )?use Rattle\.(\w+)\.(specs|proofs)\.(\w+)', re.MULTILINE)
 
 
 def tabled():
@@ -31,9 +31,11 @@ def wrong():
         step = text.startswith(STEP)
         if text.startswith((STEP, TEST)) == ((crate, file) in named):
             yield f'crates/{crate}/specs/{file}.antt is to be believed, a test or a step, and one of these alone'
-        for used in USED.findall(text):
-            if not step and texts.get(used, '').startswith(STEP):
-                yield f'crates/{crate}/specs/{file}.antt uses {used[1]} of {used[0]}, a step of the proofs'
+        for other, part, used in USED.findall(text):
+            if not step and part == 'specs' and texts.get((other, used), '').startswith(STEP):
+                yield f'crates/{crate}/specs/{file}.antt uses {used} of {other}, a step of the proofs'
+            if not step and part == 'proofs' and (ROOT / 'crates' / other).exists():
+                yield f'crates/{crate}/specs/{file}.antt uses {used} of the proofs of {other}'
 
 
 def main():

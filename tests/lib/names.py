@@ -2,7 +2,7 @@
 import re
 
 # What may stand before a declared name.
-KEYWORDS = {'pub', 'abbrev', 'unfoldable', 'record', 'data'}
+KEYWORDS = {'pub', 'abbrev', 'unfoldable', 'opaque', 'record', 'data'}
 OPENING, CLOSING = '({⟨[', ')}⟩]'
 
 
@@ -13,8 +13,13 @@ class Crate:
         self.name = folder.name
         # The names that a file of specs/ or proofs/ declares, by the file's name; both where both have it.
         self.files = {}
-        for path in sorted(folder.glob('specs/*.antt')) + sorted(folder.glob('proofs/*.antt')):
-            self.files.setdefault(path.stem, set()).update(declared(path.read_text()))
+        # The names that the files of specs/ declare, and those of proofs/: the laws.
+        self.stated, self.laws = set(), set()
+        for part, names in (('specs', self.stated), ('proofs', self.laws)):
+            for path in sorted(folder.glob(f'{part}/*.antt')):
+                found = declared(path.read_text())
+                names.update(found)
+                self.files.setdefault(path.stem, set()).update(found)
         self.edits = {path.stem for path in folder.glob('must-fail/*.edit')}
         self.functions, self.public, self.types, self.modules = set(), set(), set(), set()
         for path in folder.glob('src/**/*.rt'):
@@ -41,6 +46,10 @@ class Crate:
         if file in self.files:
             return name in self.files[file]
         return any({file, name} <= names for names in self.files.values())
+
+    def is_law_alone(self, name):
+        """Whether a file of proofs/ declares this name, and nothing else in the crate has it."""
+        return name in self.laws and not any(name in kind for kind in (self.stated, self.functions, self.types, self.modules, self.edits, self.files))
 
     def anywhere(self, name, functions):
         """Whether any of these functions, or anything else in the crate, has this name."""
