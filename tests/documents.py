@@ -24,7 +24,7 @@ STRICT = {'DEMANDS.md', 'PROMISES.md', 'ARCHITECTURE.md', 'DECISIONS.md', 'CONTR
 OTHERS = {
     'requires', 'ensures', 'specs/', 'src/', 'proofs/', 'must-fail/', 'target/', 'rt', 'cargo', 'python3', 'stdin', 'stdout', 'omega', 'simp',
     'rw', 'cc', 'bit_or', 'bit_and', 'min', 'crate', 'File.name',
-    'slices', 'pN', 'libc', 'os',
+    'slices', 'pN', 'libc', 'os', 'out/',
 }
 FILE_NAME = re.compile(r"[A-Z]\w*\.[\w'-]+")
 PATH = re.compile(r'[\w.*-]+(/[\w.*-]+)*/?')
@@ -219,7 +219,9 @@ class Reader:
         """Whether something has this name: any crate's, or a private function of the crate named last."""
         here = self.here()
         every = self.crates.values()
-        return word in OTHERS or word in self.crates or any(crate.anywhere(word, crate.functions if crate in here else crate.public) for crate in every)
+        if word in OTHERS or word in self.crates:
+            return True
+        return any(crate.anywhere(word, crate.functions if crate in here else crate.public) for crate in every)
 
 
 def spans(text):
