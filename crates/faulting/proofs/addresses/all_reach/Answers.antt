@@ -19,20 +19,20 @@ returns-then-width-eq0 c = rw c.if-width-eq0.true refl
 
 pub loop-k-init : goal.loop-k-init
 loop-k-init c =
-    reach_none c.args.offset c.args.words (take c.args.width c.args.t1) (omega (arith, (let at_wide : length (take c.args.width c.args.t1) ≡ c.args.width = let e : length c.args.t1 ≡ 32 = search rules in length-take-le c.args.width c.args.t1 (omega (arith, e, c.requires.0)) in at_wide), c.if-width-eq0.false))
+    reach_none c.args.offset c.args.words (take c.args.width c.args.at) (omega (arith, (let at_wide : length (take c.args.width c.args.at) ≡ c.args.width = let e : length c.args.at ≡ 32 = search rules in length-take-le c.args.width c.args.at (omega (arith, e, c.requires.0)) in at_wide), c.if-width-eq0.false))
 
 pub loop-k-preserved : goal.loop-k-preserved
 loop-k-preserved c =
     let h = c.loop-k in
     let a = c.args in
     let b : h.k < a.width = omega (arith, c.loop-k-test.true) in
-    let address = get_or a.t1 h.k 0 in
+    let address = get_or a.at h.k 0 in
     let reach = in_reach a.offset a.words in
     let tested = eqb (h.bits % 4) 0 && is_below a.offset a.words h.top in
-    asked_more reach (take a.width a.t1) h.k tested _ (omega (arith, (let at_wide : length (take c.args.width c.args.t1) ≡ c.args.width = let e : length c.args.t1 ≡ 32 = search rules in length-take-le c.args.width c.args.t1 (omega (arith, e, c.requires.0)) in at_wide))) h.invariant
+    asked_more reach (take a.width a.at) h.k tested _ (omega (arith, (let at_wide : length (take c.args.width c.args.at) ≡ c.args.width = let e : length c.args.at ≡ 32 = search rules in length-take-le c.args.width c.args.at (omega (arith, e, c.requires.0)) in at_wide))) h.invariant
     (ap (λ (n : ℕ). eqb (bit_or h.bits address % 4) 0 && is_below a.offset a.words n) (c.larger-top.ensures ∙ ap (max h.top) c.sub.ensures)
     ∙ reach_more a.offset a.words h.bits h.top address
-    ∙ ap (λ (x : ℕ). tested && reach x) (sym (get_or-take a.width a.t1 h.k 0 b)))
+    ∙ ap (λ (x : ℕ). tested && reach x) (sym (get_or-take a.width a.at h.k 0 b)))
 
 pub returns : goal.returns
 returns c =
@@ -43,5 +43,5 @@ returns c =
     (c.past_end-beyond.ensures ∙ ap (is_past a.words) c.address.ensures)
     ∙ and_assoc aligned (not (is_over h.top a.offset)) _
     ∙ ap (λ (q : Bool). aligned && q) (below_told a.offset a.words h.top c.requires.1)
-    ∙ asked_all (in_reach a.offset a.words) (take a.width a.t1) h.k (aligned && is_below a.offset a.words h.top)
-    (omega (arith, (let at_wide : length (take c.args.width c.args.t1) ≡ c.args.width = let e : length c.args.t1 ≡ 32 = search rules in length-take-le c.args.width c.args.t1 (omega (arith, e, c.requires.0)) in at_wide), c.loop-k-test.false)) h.invariant
+    ∙ asked_all (in_reach a.offset a.words) (take a.width a.at) h.k (aligned && is_below a.offset a.words h.top)
+    (omega (arith, (let at_wide : length (take c.args.width c.args.at) ≡ c.args.width = let e : length c.args.at ≡ 32 = search rules in length-take-le c.args.width c.args.at (omega (arith, e, c.requires.0)) in at_wide), c.loop-k-test.false)) h.invariant

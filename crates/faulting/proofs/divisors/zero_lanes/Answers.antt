@@ -19,7 +19,7 @@ bounds-divisors-k c = omega (arith, c.requires)
 pub loop-i-preserved : goal.loop-i-preserved
 loop-i-preserved c =
     picked_more c.loop-i.invariant (omega arith) c.requires _ _ _ c.union-set.ensures c.only.ensures
-    (ap (λ (p : Bool). p && eqb (get_or c.args.t1 c.loop-i.i 0) 0) c.has.ensures)
+    (ap (λ (p : Bool). p && eqb (get_or c.args.divisors c.loop-i.i 0) 0) c.has.ensures)
 
 pub returns : goal.returns
 returns c = marked_all c.loop-i.invariant (omega arith)

@@ -4,4 +4,4 @@ use Rattle.std.proofs.Common.{rules}
 use Rattle.wave.proofs.going.onward_by.Goals as goal
 
 pub returns : goal.returns
-returns c xs = let s = c.args in onward_hot s.h s.size _ _ xs c.wrapping_add_u32.ensures c.depth_of.ensures
+returns c xs = let s = c.args in onward_hot s.h s.size _ _ xs c.wrapping_add_u32.ensures.value c.depth_of.ensures
