@@ -1,8 +1,6 @@
 -- `compute::carry` meets its contract: a comparison by the law of its class; every other instruction, with none of the comparisons' tags, by
 -- `carry_class`, with the predicate as it was.
 use mathlib.Core.Path.{refl}
-use mathlib.Core.List.{[], ◌∷◌}
-use types.Run.{miss}
 use borrow.Author.Rules.{rules}
 use Rattle.compute.proofs.Standing.{narrow, stands_rs1, stands_rs2}
 use Rattle.compute.proofs.Arms.{arm_compare}
@@ -10,7 +8,7 @@ use Rattle.compute.proofs.carry.Goals as goal
 
 pub carry_class-faults-requires : goal.carry_class-faults-requires
 carry_class-faults-requires c =
-    (c.requires, λ o e. absurd (miss (0 ∷ 2 ∷ 3 ∷ 4 ∷ 5 ∷ 6 ∷ 7 ∷ 8 ∷ 9 ∷ 10 ∷ 11 ∷ []) 1 tt (rw e at c.in_default.keys2)))
+    (c.requires, c.in_default.not-Compare)
 
 pub returns-in_default : goal.returns-in_default
 returns-in_default c = c.carry_class-faults.ensures _

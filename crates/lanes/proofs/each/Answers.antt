@@ -1,10 +1,9 @@
 -- `lanes::each` meets its contract: at turn i the lanes below i have the number.
 use mathlib.Core.Path.{refl, ap, ◌∙◌}
-use Prim.Native.Nat.{ℕ, ◌-◌}
+use Prim.Native.Nat.{ℕ}
 use native.Mathlib.Omega.{arith}
-use borrow.Author.Rules.{rules}
 use Rattle.lanes.specs.EachLane.{by_lane}
-use Rattle.lanes.proofs.Filling.{Filled, filled_none, filled_more, filled_all}
+use Rattle.lanes.proofs.Filling.{filled_none, filled_more, filled_all}
 use Rattle.lanes.proofs.each.Goals as goal
 
 pub loop-i-init : goal.loop-i-init

@@ -1,10 +1,6 @@
 -- `lanes::each` meets its contract: at turn i the lanes below i have the number.
-use mathlib.Core.Path.{refl, ap, ◌∙◌}
-use Prim.Native.Nat.{ℕ, ◌-◌}
-use native.Mathlib.Omega.{arith}
-use borrow.Author.Rules.{rules}
-use Rattle.lanes.specs.EachLane.{by_lane}
-use Rattle.lanes.proofs.Filling.{Filled, filled_none, filled_more, filled_all}
+use Prim.Native.Nat.{◌-◌}
+use Rattle.lanes.proofs.Filling.{Filled}
 use Rattle.lanes.proofs.each.Given as goal
 
 abbrev pub invariant-loop-i : goal.invariant-loop-i

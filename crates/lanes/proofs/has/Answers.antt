@@ -1,5 +1,4 @@
 -- `lanes::has` meets its contract: a shift brings the lane's bit down, and no mask has a bit past its width.
-use borrow.Author.Rules.{rules}
 use Rattle.lanes.specs.Sets.{widest}
 use Rattle.lanes.proofs.Masks.{tested}
 use Rattle.lanes.proofs.has.Goals as goal

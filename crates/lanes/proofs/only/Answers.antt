@@ -1,5 +1,4 @@
 -- `lanes::only` meets its contract: nothing is shifted out of a mask that is wide enough.
-use borrow.Author.Rules.{rules}
 use Rattle.lanes.specs.Sets.{widest}
 use Rattle.lanes.proofs.Masks.{picked_one, picked_none}
 use Rattle.lanes.proofs.only.Goals as goal

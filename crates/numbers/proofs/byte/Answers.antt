@@ -1,7 +1,6 @@
 -- A byte past the end is 0, as `get_or` has it.
 use mathlib.Core.Path.{sym}
 use lib.ListN.{get_or-eq_default}
-use borrow.Author.Rules.{rules}
 use Rattle.numbers.proofs.byte.Goals as goal
 
 pub returns : goal.returns

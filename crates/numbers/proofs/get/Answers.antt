@@ -2,7 +2,6 @@
 use mathlib.Core.Path.{sym, ◌∙◌}
 use borrow.Author.Rules.{part_to_end}
 use Rattle.numbers.proofs.Numerals.{number_out, number_part}
-use borrow.Author.Rules.{rules}
 use Rattle.numbers.proofs.get.Goals as goal
 
 pub returns-then-bytes-at : goal.returns-then-bytes-at

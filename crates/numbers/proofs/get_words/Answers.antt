@@ -1,12 +1,8 @@
 -- The invariant: the numbers that are left, got where the loop stands, give the whole result.
-use mathlib.Core.Path.{◌≡◌, refl, ◌∙◌}
-use Prim.Native.Nat.{◌-◌, ◌*◌, ◌≤◌}
+use mathlib.Core.Path.{refl, ◌∙◌}
 use native.Mathlib.Omega.{arith}
-use lib.ListN.{length, length-set}
-use borrow.Author.Rules.{rules}
+use lib.ListN.{length-set}
 use borrow.Author.Rules.{part_to_end}
-use Rattle.numbers.specs.Numbers.{numbers_at}
-use Rattle.numbers.specs.Placed.{placed}
 use Rattle.numbers.proofs.Words.{get_none, get_on, get_done}
 use Rattle.numbers.proofs.get_words.Goals as goal
 

@@ -1,13 +1,9 @@
 -- The invariant: the numbers that are left, got where the loop stands, give the whole result.
-use mathlib.Core.Path.{◌≡◌, refl, ◌∙◌}
+use mathlib.Core.Path.{◌≡◌}
 use Prim.Native.Nat.{◌-◌, ◌*◌, ◌≤◌}
-use native.Mathlib.Omega.{arith}
-use lib.ListN.{length, length-set}
-use borrow.Author.Rules.{rules}
-use borrow.Author.Rules.{part_to_end}
+use lib.ListN.{length}
 use Rattle.numbers.specs.Numbers.{numbers_at}
 use Rattle.numbers.specs.Placed.{placed}
-use Rattle.numbers.proofs.Words.{get_none, get_on, get_done}
 use Rattle.numbers.proofs.get_words.Given as goal
 
 abbrev pub invariant-loop-k : goal.invariant-loop-k

@@ -1,6 +1,5 @@
 -- The array of the four bytes is `bytes_of n` as it stands.
 use Rattle.numbers.specs.Numbers.{bytes_of}
-use borrow.Author.Rules.{rules}
 use Rattle.numbers.proofs.put.Goals as goal
 
 pub returns : goal.returns

@@ -1,10 +1,7 @@
 -- The invariant: what is left to put, put where the loop stands, gives the whole result.
-use mathlib.Core.Path.{◌≡◌, refl, sym, ◌∙◌}
-use Prim.Native.Nat.{◌≤◌, ◌-◌}
+use mathlib.Core.Path.{refl, sym, ◌∙◌}
 use native.Mathlib.Omega.{arith}
-use lib.ListN.{length, get_or, drop, length-set}
-use borrow.Author.Rules.{rules}
-use Rattle.numbers.specs.Placed.{placed}
+use lib.ListN.{get_or, length-set}
 use Rattle.numbers.proofs.Placing.{placed_out, placed_done, placed_on}
 use Rattle.numbers.proofs.put_bytes.Goals as goal
 

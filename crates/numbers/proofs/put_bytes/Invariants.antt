@@ -1,11 +1,8 @@
 -- The invariant: what is left to put, put where the loop stands, gives the whole result.
-use mathlib.Core.Path.{◌≡◌, refl, sym, ◌∙◌}
+use mathlib.Core.Path.{◌≡◌}
 use Prim.Native.Nat.{◌≤◌, ◌-◌}
-use native.Mathlib.Omega.{arith}
-use lib.ListN.{length, get_or, drop, length-set}
-use borrow.Author.Rules.{rules}
+use lib.ListN.{length, drop}
 use Rattle.numbers.specs.Placed.{placed}
-use Rattle.numbers.proofs.Placing.{placed_out, placed_done, placed_on}
 use Rattle.numbers.proofs.put_bytes.Given as goal
 
 abbrev pub invariant-loop-i : goal.invariant-loop-i

@@ -1,11 +1,7 @@
 -- The invariant: the numbers that are left, put where the loop stands, give the whole result.
-use mathlib.Core.Path.{◌≡◌, refl, sym, ◌∙◌}
-use Prim.Native.Nat.{◌-◌, ◌≤◌}
+use mathlib.Core.Path.{refl, sym, ◌∙◌}
 use native.Mathlib.Omega.{arith}
-use lib.ListN.{length, drop}
-use borrow.Author.Rules.{rules}
-use Rattle.numbers.specs.Numbers.{bytes_of_all, Small}
-use Rattle.numbers.specs.Placed.{placed}
+use Rattle.numbers.specs.Numbers.{Small}
 use Rattle.numbers.proofs.Placing.{placed_out}
 use Rattle.numbers.proofs.Words.{put_on, put_done}
 use Rattle.numbers.proofs.put_words.Goals as goal

@@ -1,13 +1,9 @@
 -- The invariant: the numbers that are left, put where the loop stands, give the whole result.
-use mathlib.Core.Path.{◌≡◌, refl, sym, ◌∙◌}
+use mathlib.Core.Path.{◌≡◌}
 use Prim.Native.Nat.{◌-◌, ◌≤◌}
-use native.Mathlib.Omega.{arith}
 use lib.ListN.{length, drop}
-use borrow.Author.Rules.{rules}
-use Rattle.numbers.specs.Numbers.{bytes_of_all, Small}
+use Rattle.numbers.specs.Numbers.{bytes_of_all}
 use Rattle.numbers.specs.Placed.{placed}
-use Rattle.numbers.proofs.Placing.{placed_out}
-use Rattle.numbers.proofs.Words.{put_on, put_done}
 use Rattle.numbers.proofs.put_words.Given as goal
 
 abbrev pub invariant-loop-k : goal.invariant-loop-k

@@ -1,10 +1,7 @@
 -- The invariant: what is left of the two is the same exactly if they are.
-use mathlib.Core.Path.{sym}
 use Prim.Native.Nat.{◌-◌}
 use lib.ListN.{length}
-use borrow.Author.Rules.{rules}
-use Rattle.ground.proofs.Tests.{same_length}
-use Rattle.numbers.proofs.Comparing.{Comparing, comparing_start, comparing_differ, comparing_turn, comparing_end}
+use Rattle.numbers.proofs.Comparing.{Comparing}
 use Rattle.numbers.proofs.same_bytes.Given as goal
 
 abbrev pub invariant-loop-k : goal.invariant-loop-k

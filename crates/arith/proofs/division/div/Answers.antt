@@ -1,5 +1,5 @@
 -- `arith::division::div` meets its contract: every quotient that is not handled apart fits.
-use Rattle.std.proofs.Common.{◌∙◌, rules}
+use Rattle.std.proofs.Common.{◌∙◌}
 use Rattle.arith.proofs.Quotients.{by_zero, overflow, Divided, asked, quotient}
 use Rattle.arith.proofs.division.div.Goals as goal
 

@@ -1,5 +1,5 @@
 -- `arith::division::rem` meets its contract: the machine asks that the quotient fits, and the remainder then does.
-use Rattle.std.proofs.Common.{◌∙◌, rules}
+use Rattle.std.proofs.Common.{◌∙◌}
 use Rattle.arith.proofs.Quotients.{rest_by_zero, rest_of_overflow, Divided, asked, remainder}
 use Rattle.arith.proofs.division.rem.Goals as goal
 

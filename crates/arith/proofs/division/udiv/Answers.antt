@@ -1,5 +1,5 @@
 -- `arith::division::udiv` meets its contract: the unsigned quotient by zero is 0.
-use Rattle.std.proofs.Common.{sym, rules}
+use Rattle.std.proofs.Common.{sym}
 use native.Mathlib.Nat.{div-zero}
 use Rattle.arith.proofs.division.udiv.Goals as goal
 

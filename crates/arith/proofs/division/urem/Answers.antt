@@ -1,5 +1,5 @@
 -- `arith::division::urem` meets its contract: the unsigned remainder by zero is the dividend.
-use Rattle.std.proofs.Common.{sym, rules}
+use Rattle.std.proofs.Common.{sym}
 use native.Mathlib.Nat.{mod-zero}
 use Rattle.arith.proofs.division.urem.Goals as goal
 

@@ -1,5 +1,4 @@
 -- `arith::products::mul` meets its contract: the product has 64 bits.
-use Rattle.std.proofs.Common.{rules}
 use Rattle.ground.proofs.Numbers.{product_lt}
 use Rattle.arith.proofs.products.mul.Goals as goal
 

@@ -1,5 +1,5 @@
 -- `arith::products::mulhi` meets its contract: the product of what was read has 64 bits, and its high half fits.
-use Rattle.std.proofs.Common.{◌∙◌, rules}
+use Rattle.std.proofs.Common.{◌∙◌}
 use Rattle.arith.proofs.Registers.{Read}
 use Rattle.arith.proofs.HighHalf.{asked_product, asked_half, half}
 use Rattle.arith.proofs.products.mulhi.Goals as goal

@@ -1,5 +1,5 @@
 -- `arith::shifts::sar` meets its contract: what is shifted is what was read, and stays in range.
-use Rattle.std.proofs.Common.{◌^◌, ℤ, ap, ◌∙◌, rules}
+use Rattle.std.proofs.Common.{◌^◌, ℤ, ap, ◌∙◌}
 use lib.Signed.{shr_z}
 use Rattle.arith.specs.Arith.{places}
 use Rattle.arith.proofs.Registers.{read_back, written, shift_fits}

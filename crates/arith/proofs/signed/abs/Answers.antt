@@ -1,5 +1,5 @@
 -- `arith::signed::abs` meets its contract: a number of the lower half is its own, one of the upper half as far from the top.
-use Rattle.std.proofs.Common.{refl, arith, w32, rules}
+use Rattle.std.proofs.Common.{refl, arith, w32}
 use mir.Facts.{to_z_pos}
 use Rattle.arith.proofs.Registers.{upper}
 use Rattle.arith.proofs.signed.abs.Goals as goal

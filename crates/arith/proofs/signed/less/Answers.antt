@@ -1,5 +1,4 @@
 -- `arith::signed::less` meets its contract: what is compared is what was read.
-use Rattle.std.proofs.Common.{rules}
 use lib.Signed.{lt_z}
 use Rattle.arith.proofs.Registers.{worked}
 use Rattle.arith.proofs.signed.less.Goals as goal

@@ -1,5 +1,5 @@
 -- `arith::signed::min` meets its contract, by what `less` answers.
-use Rattle.std.proofs.Common.{sym, refl, ◌∙◌, rules}
+use Rattle.std.proofs.Common.{sym, refl, ◌∙◌}
 use Rattle.arith.proofs.signed.min.Goals as goal
 
 pub returns-then-less : goal.returns-then-less

@@ -1,5 +1,5 @@
 -- `arith::signed::to_signed` meets its contract: the upper half is -1 less what is left to the top.
-use Rattle.std.proofs.Common.{ℤ, ◌∙◌, to_z-of_z, w32, SFits, rules}
+use Rattle.std.proofs.Common.{ℤ, ◌∙◌, to_z-of_z, w32, SFits}
 use mathlib.Core.Path.{subst⁻¹}
 use mir.Facts.{sfits_to_z}
 use Rattle.arith.proofs.Registers.{upper_made}

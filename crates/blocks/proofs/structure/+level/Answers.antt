@@ -19,7 +19,7 @@ here words reading from room inside l at part h along seen judged =
     record { fits = code_fits words reading; in_code = h; along = along; turn = turned (code_of words reading) at room part l seen judged }
 
 pub loop-at-init : goal.loop-at-init
-loop-at-init t c = started (code_of c.args.code.now c.args.reading) _ _ _ _ c.requires.1
+loop-at-init t c = started (code_of c.args.code.now c.args.reading) _ _ _ _ c.requires
 
 pub overflow_add-at : goal.overflow_add-at
 overflow_add-at t c =
@@ -47,7 +47,7 @@ overflow_sub-room t c =
 
 pub level-end-requires : goal.level-end-requires
 level-end-requires t c =
-    (omega (arith, enter_ok (here c.args.code.now c.args.reading _ _ _ _ _ _ c.loop-at-test.true c.loop-at.invariant c.look-item.ensures c.judge-turn.ensures) c.in-Enter.is, c.requires.0), omega (arith, enter_ok (here c.args.code.now c.args.reading _ _ _ _ _ _ c.loop-at-test.true c.loop-at.invariant c.look-item.ensures c.judge-turn.ensures) c.in-Enter.is))
+    (omega (arith, enter_ok (here c.args.code.now c.args.reading _ _ _ _ _ _ c.loop-at-test.true c.loop-at.invariant c.look-item.ensures c.judge-turn.ensures) c.in-Enter.is), omega arith)
 
 pub loop-at-smaller : goal.loop-at-smaller
 loop-at-smaller t c =

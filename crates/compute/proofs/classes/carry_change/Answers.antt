@@ -23,8 +23,8 @@ pub returns-then-is_clear : goal.returns-then-is_clear
 returns-then-is_clear c local p =
     let a = c.args in
     arm_change a.shape a.x a.t p a.regs.now a.device.now local a.change c.requires _ c.desired-rs3.ensures _ c.gather-at.ensures
-    _ ((let at_register_low : (k : ℕ) → get_or c.args.regs.now k 0 < 2 ^ 32 = λ k. omega (arith, c.slice_known-1.given k) in at_register_low)) c.address_faults-faults.ensures _ c.is_clear.ensures _ _ _ _ c.if-is_clear.true c.change_lanes-value.ensures.0
-    c.change_lanes-value.ensures.1 c.write_results.ensures
+    _ ((let at_register_low : (k : ℕ) → get_or c.args.regs.now k 0 < 2 ^ 32 = λ k. omega (arith, c.slice_known-1.given k) in at_register_low)) c.address_faults-faults.ensures _ c.is_clear.ensures _ _ _ _ c.if-is_clear.true c.change_lanes-value.ensures.found
+    c.change_lanes-value.ensures.left c.write_results.ensures
 
 pub returns : goal.returns
 returns c local p =

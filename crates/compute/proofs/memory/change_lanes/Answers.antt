@@ -105,8 +105,8 @@ loop-rest-preserved c =
     let low = ((let at_here : let a = c.args in
     Lowest a.shape.width a.t c.loop-rest.invariant.next c.lowest-i.result = waiting_lowest c.loop-rest.invariant.waiting widest _ c.requires.0.narrow (omega arith) c.lowest-i.ensures in at_here)).low in
     walked_more c.loop-rest.invariant widest _ _ _ _ _ c.lowest-i.ensures ((let at_here : let a = c.args in
-    Lowest a.shape.width a.t c.loop-rest.invariant.next c.lowest-i.result = waiting_lowest c.loop-rest.invariant.waiting widest _ c.requires.0.narrow (omega arith) c.lowest-i.ensures in at_here)) c.change_word.ensures.0
-    (c.change_word.ensures.1
+    Lowest a.shape.width a.t c.loop-rest.invariant.next c.lowest-i.result = waiting_lowest c.loop-rest.invariant.waiting widest _ c.requires.0.narrow (omega arith) c.lowest-i.ensures in at_here)) c.change_word.ensures.found
+    (c.change_word.ensures.left
     ∙ ap (set c.loop-rest.memory _)
     (ap₂ (λ (x y : ℕ). change_of c.args.change (word_at c.args.at.now c.loop-rest.memory c.lowest-i.result) x y) (read_gathered c.requires.0 _ _ c.slot-p.ensures low)
     (read_gathered c.requires.1 _ _ c.slot-q.ensures low)))
@@ -119,4 +119,4 @@ shape_of-memory c =
     c.loop-rest.invariant.turned
 
 pub returns : goal.returns
-returns c = walked_all _ c.loop-rest.invariant (omega arith)
+returns c = let h = walked_all _ c.loop-rest.invariant (omega arith) in record { found = h.0; left = h.1 }

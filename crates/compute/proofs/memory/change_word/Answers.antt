@@ -9,9 +9,10 @@ use Rattle.compute.proofs.memory.change_word.Goals as goal
 
 pub returns : goal.returns
 returns c =
-    let a = c.args in (
-      c.word-old.ensures,
-      c.put_word.ensures
+    let a = c.args in
+    record {
+      found = c.word-old.ensures;
+      left = c.put_word.ensures
           ∙ ap (set a.memory.now (word_of a.address))
-          (c.changed-new.ensures ∙ ap (λ (old : ℕ). change_of a.change old a.operand a.desired) c.word-old.ensures),
-    )
+          (c.changed-new.ensures ∙ ap (λ (old : ℕ). change_of a.change old a.operand a.desired) c.word-old.ensures);
+    }

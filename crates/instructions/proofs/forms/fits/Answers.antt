@@ -1,5 +1,4 @@
 -- Every field keeps to its limits: the tests are `fits` term by term, with the two callees' answers put in.
-use borrow.Author.Rules.{rules}
 use Rattle.instructions.proofs.forms.fits.Goals as goal
 
 pub returns : goal.returns

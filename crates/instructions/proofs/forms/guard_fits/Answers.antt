@@ -1,5 +1,4 @@
 -- The guard's test is `guard_fits` term by term, with the need's answer put in.
-use borrow.Author.Rules.{rules}
 use Rattle.instructions.proofs.forms.guard_fits.Goals as goal
 
 pub returns : goal.returns

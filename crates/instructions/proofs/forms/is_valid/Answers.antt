@@ -2,7 +2,6 @@
 use mathlib.Core.Path.{◌∙◌, ap}
 use Rattle.instructions.specs.declared.forms.Limits.{Limits}
 use Rattle.instructions.specs.Forms.{fits}
-use borrow.Author.Rules.{rules}
 use Rattle.instructions.proofs.forms.is_valid.Goals as goal
 
 pub returns : goal.returns

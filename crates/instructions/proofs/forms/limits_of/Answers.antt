@@ -3,7 +3,6 @@ use mathlib.Core.Path.{◌∙◌, ap}
 use Rattle.instructions.specs.declared.forms.Need.{Need}
 use Rattle.instructions.specs.declared.forms.Second.{Second}
 use Rattle.instructions.specs.Forms.{form}
-use borrow.Author.Rules.{rules}
 use Rattle.instructions.proofs.forms.limits_of.Goals as goal
 
 pub returns-in-Two : goal.returns-in-Two

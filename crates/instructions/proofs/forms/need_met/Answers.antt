@@ -1,5 +1,4 @@
 -- The need of a predicate, arm by arm.
-use borrow.Author.Rules.{rules}
 use Rattle.instructions.proofs.forms.need_met.Goals as goal
 
 pub returns-in-NotZero : goal.returns-in-NotZero

@@ -1,5 +1,4 @@
 -- The limits of word 1, arm by arm: one for each of its three forms.
-use borrow.Author.Rules.{rules}
 use Rattle.instructions.proofs.forms.second_fits.Goals as goal
 
 pub returns-in-Nothing : goal.returns-in-Nothing

@@ -2,7 +2,6 @@
 use mathlib.Core.Path.{ap}
 use Rattle.instructions.specs.declared.registers.Registers.{Registers}
 use Rattle.instructions.specs.Registers.{all_below}
-use borrow.Author.Rules.{rules}
 use Rattle.instructions.proofs.registers.registers_below.Goals as goal
 
 pub returns : goal.returns

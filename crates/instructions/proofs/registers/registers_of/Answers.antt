@@ -1,5 +1,4 @@
 -- Which fields are registers, arm by arm: each is the line of `registers_of`.
-use borrow.Author.Rules.{rules}
 use Rattle.instructions.proofs.registers.registers_of.Goals as goal
 
 pub returns-in-Two : goal.returns-in-Two

@@ -1,7 +1,6 @@
 -- The search by modifier is the definition's (Lookup).
 use Rattle.opcodes.specs.Table.{modifier_of, controls}
 use Rattle.opcodes.proofs.Lookup.{named_find}
-use borrow.Author.Rules.{rules}
 use Rattle.opcodes.proofs.table.control_op.Goals as goal
 
 pub returns : goal.returns

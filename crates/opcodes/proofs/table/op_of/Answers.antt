@@ -1,7 +1,6 @@
 -- The part that is searched is the one that has the opcode, if any has (Parts).
 use mathlib.Core.Path.{sym, ◌∙◌}
 use Rattle.opcodes.proofs.Parts.{of_registers, of_reaching, of_control}
-use borrow.Author.Rules.{rules}
 use Rattle.opcodes.proofs.table.op_of.Goals as goal
 
 pub returns-then-opcode-eq63 : goal.returns-then-opcode-eq63

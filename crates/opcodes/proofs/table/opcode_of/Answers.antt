@@ -1,5 +1,4 @@
 -- The opcode of an operation, arm by arm.
-use borrow.Author.Rules.{rules}
 use Rattle.opcodes.proofs.table.opcode_of.Goals as goal
 
 pub returns-in-Two : goal.returns-in-Two

@@ -3,7 +3,6 @@ use mathlib.Core.Path.{sym, ◌∙◌}
 use Rattle.opcodes.specs.Table.{opcode_of, modifier_of, accesses, atomics, crossings}
 use Rattle.opcodes.proofs.Lookup.{named_find}
 use Rattle.opcodes.proofs.Parts.{among_accesses, not_listed}
-use borrow.Author.Rules.{rules}
 use Rattle.opcodes.proofs.table.reaching_op.Goals as goal
 
 pub returns-then-opcode-eq60 : goal.returns-then-opcode-eq60

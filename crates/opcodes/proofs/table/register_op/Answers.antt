@@ -3,7 +3,6 @@ use mathlib.Core.Path.{sym, ◌∙◌}
 use Rattle.opcodes.specs.Table.{opcode_of, sums, bitwise, moves}
 use Rattle.opcodes.proofs.Lookup.{named_find}
 use Rattle.opcodes.proofs.Parts.{none_modified, among_sums, among_bitwise, among_moves}
-use borrow.Author.Rules.{rules}
 use Rattle.opcodes.proofs.table.register_op.Goals as goal
 
 pub returns-then-modifier-ne0 : goal.returns-then-modifier-ne0
