@@ -15,7 +15,7 @@ use Rattle.blocks.specs.declared.rules.Turn.{Turn}
 use Rattle.blocks.specs.declared.rules.Turn.TheVariants.{Go, Close, Enter, Stop}
 use Rattle.blocks.specs.declared.structure.Checked.TheVariants.{Refused}
 use Rattle.blocks.specs.Code.{Code}
-use Rattle.blocks.specs.Open.{Part, before, after, looping, Open, open_at_lem, in_loop, loops, inside_of, innermost}
+use Rattle.blocks.specs.Open.{Part, before, after, looping, Open, opened_at, in_loop, loops, inside_of, innermost}
 use Rattle.blocks.specs.Scan.{Next, over, go, stray, opens, ended, react}
 use Rattle.blocks.specs.Rules.{opening, turn_of}
 use Rattle.blocks.specs.Levels.{around, InLevel}
@@ -52,13 +52,13 @@ stayed at w room o h =
     record { now_open = o; goes = refl; stands = record { inside_is = refl; room_is = h; loop_is = refl }; round = refl; at_end = refl; loops_same = refl }
 
 entered : (part : Part) (at room : ℕ) (o : List Open) → length o + room ≡ nesting
-    → Tells at room (in_loop o) o (opens part at o) (opening at room (inside_of part) (in_loop (open_at_lem part at ∷ o)))
+    → Tells at room (in_loop o) o (opens part at o) (opening at room (inside_of part) (in_loop (opened_at part at ∷ o)))
 unfolding innermost around ended
 entered part at zero o h = simp (le-ltb (length o) nesting (omega arith))
 entered part at (suc r) o h =
     rw (ne_eqb (suc r) 0 (λ e. omega arith))
     (record {
-      now_open = open_at_lem part at ∷ o;
+      now_open = opened_at part at ∷ o;
       goes = simp (lt-ltb (length o) nesting (omega arith));
       left = omega arith;
       stands = record { inside_is = refl; room_is = omega arith; loop_is = refl };
@@ -77,27 +77,27 @@ unfolding react innermost around ended in_loop loops
 judged (Item.Plain w) at room o h = stayed at w room o h
 judged Item.If at room o h = entered before at room o h
 judged Item.Else at room [] h = refl
-judged Item.Else at room (open_at_lem before p ∷ o) h =
+judged Item.Else at room (opened_at before p ∷ o) h =
     record {
-      now_open = open_at_lem after p ∷ o;
+      now_open = opened_at after p ∷ o;
       goes = refl;
       stands = record { inside_is = refl; room_is = h; loop_is = refl };
       round = refl;
       at_end = refl;
       loops_same = refl;
     }
-judged Item.Else at room (open_at_lem after p ∷ o) h = refl
-judged Item.Else at room (open_at_lem looping p ∷ o) h = refl
+judged Item.Else at room (opened_at after p ∷ o) h = refl
+judged Item.Else at room (opened_at looping p ∷ o) h = refl
 judged Item.Endif at room [] h = refl
-judged Item.Endif at room (open_at_lem before p ∷ o) h = refl
-judged Item.Endif at room (open_at_lem after p ∷ o) h = refl
-judged Item.Endif at room (open_at_lem looping p ∷ o) h = refl
+judged Item.Endif at room (opened_at before p ∷ o) h = refl
+judged Item.Endif at room (opened_at after p ∷ o) h = refl
+judged Item.Endif at room (opened_at looping p ∷ o) h = refl
 judged Item.Loop at room o h = entered looping at room o h
 judged Item.Jump at room o h = jumped (in_loop o) at room o h
 judged Item.Endloop at room [] h = refl
-judged Item.Endloop at room (open_at_lem before p ∷ o) h = refl
-judged Item.Endloop at room (open_at_lem after p ∷ o) h = refl
-judged Item.Endloop at room (open_at_lem looping p ∷ o) h = refl
+judged Item.Endloop at room (opened_at before p ∷ o) h = refl
+judged Item.Endloop at room (opened_at after p ∷ o) h = refl
+judged Item.Endloop at room (opened_at looping p ∷ o) h = refl
 judged (Item.Bad r) at room o h = refl
 
 -- the same, of whatever the function was called with

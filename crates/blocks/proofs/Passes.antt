@@ -12,7 +12,7 @@ use Rattle.blocks.specs.declared.item.Item.{Item}
 use Rattle.blocks.specs.declared.structure.Checked.{Checked}
 use Rattle.blocks.specs.declared.structure.Checked.TheVariants.{Refused}
 use Rattle.blocks.specs.Code.{Code}
-use Rattle.blocks.specs.Open.{before, after, looping, Open, open_at_lem, in_loop}
+use Rattle.blocks.specs.Open.{before, after, looping, Open, opened_at, in_loop}
 use Rattle.lanes.specs.Blocks.{nesting}
 use Rattle.blocks.specs.Scan.{Next, over, go, stray, ended, react, step, carry, scan, run}
 use Rattle.blocks.proofs.Widths.{Fits, Ok}
@@ -30,22 +30,22 @@ react_moves : (i : Item) (at size : ℕ) (o : List Open) → Ok at size i → at
 unfolding react
 react_moves (Item.Plain w) at size o ok h = omega arith
 react_moves Item.If at size o ok h =
-    cond_moves at size (ltb (length o) nesting) (go (at + 1) (open_at_lem before at ∷ o)) (over (Refused (broken Rule.depth at))) (λ _. omega arith) (λ _. tt)
+    cond_moves at size (ltb (length o) nesting) (go (at + 1) (opened_at before at ∷ o)) (over (Refused (broken Rule.depth at))) (λ _. omega arith) (λ _. tt)
 react_moves Item.Else at size [] ok h = tt
-react_moves Item.Else at size (open_at_lem before p ∷ o) ok h = omega arith
-react_moves Item.Else at size (open_at_lem after p ∷ o) ok h = tt
-react_moves Item.Else at size (open_at_lem looping p ∷ o) ok h = tt
+react_moves Item.Else at size (opened_at before p ∷ o) ok h = omega arith
+react_moves Item.Else at size (opened_at after p ∷ o) ok h = tt
+react_moves Item.Else at size (opened_at looping p ∷ o) ok h = tt
 react_moves Item.Endif at size [] ok h = tt
-react_moves Item.Endif at size (open_at_lem before p ∷ o) ok h = omega arith
-react_moves Item.Endif at size (open_at_lem after p ∷ o) ok h = omega arith
-react_moves Item.Endif at size (open_at_lem looping p ∷ o) ok h = tt
+react_moves Item.Endif at size (opened_at before p ∷ o) ok h = omega arith
+react_moves Item.Endif at size (opened_at after p ∷ o) ok h = omega arith
+react_moves Item.Endif at size (opened_at looping p ∷ o) ok h = tt
 react_moves Item.Loop at size o ok h =
-    cond_moves at size (ltb (length o) nesting) (go (at + 1) (open_at_lem looping at ∷ o)) (over (Refused (broken Rule.depth at))) (λ _. omega arith) (λ _. tt)
+    cond_moves at size (ltb (length o) nesting) (go (at + 1) (opened_at looping at ∷ o)) (over (Refused (broken Rule.depth at))) (λ _. omega arith) (λ _. tt)
 react_moves Item.Jump at size o ok h = cond_moves at size (in_loop o) (go (at + 1) o) (stray at) (λ _. omega arith) (λ _. tt)
 react_moves Item.Endloop at size [] ok h = tt
-react_moves Item.Endloop at size (open_at_lem before p ∷ o) ok h = tt
-react_moves Item.Endloop at size (open_at_lem after p ∷ o) ok h = tt
-react_moves Item.Endloop at size (open_at_lem looping p ∷ o) ok h = omega arith
+react_moves Item.Endloop at size (opened_at before p ∷ o) ok h = tt
+react_moves Item.Endloop at size (opened_at after p ∷ o) ok h = tt
+react_moves Item.Endloop at size (opened_at looping p ∷ o) ok h = omega arith
 react_moves (Item.Bad r) at size o ok h = tt
 
 -- past the end, and in the code

@@ -13,7 +13,7 @@ use Rattle.blocks.specs.declared.rules.Turn.TheVariants.{Go, Close, Enter, Stop}
 use Rattle.blocks.specs.declared.structure.LevelEnd.{LevelEnd}
 use Rattle.blocks.specs.declared.structure.Checked.TheVariants.{Fine, Refused}
 use Rattle.blocks.specs.Code.{Code}
-use Rattle.blocks.specs.Open.{Open, open_at_lem, in_loop, innermost}
+use Rattle.blocks.specs.Open.{Open, opened_at, in_loop, innermost}
 use Rattle.blocks.specs.Scan.{over, go, ended, react, run, check_of}
 use Rattle.blocks.specs.Rules.{turn_of}
 use Rattle.blocks.specs.Levels.{around, InLevel, follows, LevelSays}
@@ -47,7 +47,7 @@ pub record Here (code : Code) (from room : ℕ) (inside : Inside) (l : Bool) (at
 innermost_of_none : (n : List Open) → ended n ≡ Fine → innermost n ≡ Inside.Nothing
 unfolding innermost ended
 innermost_of_none [] e = refl
-innermost_of_none (open_at_lem part p ∷ n) e = let z : ◌≡◌ {A = ℕ} 0 1 = cc in absurd (omega arith)
+innermost_of_none (opened_at part p ∷ n) e = let z : ◌≡◌ {A = ℕ} 0 1 = cc in absurd (omega arith)
 
 module _ {code : Code} {from room : ℕ} {inside : Inside} {l : Bool} {at : ℕ} {part : Inside} {u : Turn} (j : Here code from room inside l at part u) where
   fine : (t : Turn) → u ≡ t → TurnOk at code.size room t

@@ -6,13 +6,13 @@ use Rattle.blocks.specs.declared.rules.Inside.{Inside}
 use Rattle.blocks.specs.declared.structure.LevelEnd.{LevelEnd}
 use Rattle.blocks.specs.declared.structure.Checked.{Checked}
 use Rattle.blocks.specs.Code.{Code}
-use Rattle.blocks.specs.Open.{Open, open_at_lem, in_loop, innermost}
+use Rattle.blocks.specs.Open.{Open, opened_at, in_loop, innermost}
 use Rattle.blocks.specs.Scan.{ended, run}
 
 -- the blocks around the innermost
 unfoldable pub around : List Open → List Open
 around [] = []
-around (open_at_lem part p ∷ o) = o
+around (opened_at part p ∷ o) = o
 
 -- these blocks are open where a level has this room, is directly inside this, and in a loop or not
 pub record InLevel (room : ℕ) (inside : Inside) (in-a-loop : Bool) (o : List Open) : Type 0 where

@@ -17,20 +17,20 @@ part_number looping = loop_part
 
 -- an open block: its part and the place of its opener
 pub data Open : Type 0 where
-  open_at_lem : Part → ℕ → Open
+  opened_at : Part → ℕ → Open
 
 abbrev pub part_number_of : Open → ℕ
-part_number_of (open_at_lem part p) = part_number part
+part_number_of (opened_at part p) = part_number part
 
 abbrev pub opener_of : Open → ℕ
-opener_of (open_at_lem part p) = p
+opener_of (opened_at part p) = p
 
 -- is there a loop among the open blocks?
 unfoldable pub in_loop : List Open → Bool
 in_loop [] = false
-in_loop (open_at_lem before p ∷ o) = in_loop o
-in_loop (open_at_lem after p ∷ o) = in_loop o
-in_loop (open_at_lem looping p ∷ o) = true
+in_loop (opened_at before p ∷ o) = in_loop o
+in_loop (opened_at after p ∷ o) = in_loop o
+in_loop (opened_at looping p ∷ o) = true
 
 -- how many of the open blocks are loops
 abbrev pub one_if_loop : Part → ℕ → ℕ
@@ -40,7 +40,7 @@ one_if_loop looping n = n + 1
 
 unfoldable pub loops : List Open → ℕ
 loops [] = 0
-loops (open_at_lem part p ∷ o) = one_if_loop part (loops o)
+loops (opened_at part p ∷ o) = one_if_loop part (loops o)
 
 -- what a place stands directly inside of
 abbrev pub inside_of : Part → Inside
@@ -51,4 +51,4 @@ inside_of looping = Inside.Loop
 -- what the innermost open block is
 unfoldable pub innermost : List Open → Inside
 innermost [] = Inside.Nothing
-innermost (open_at_lem part p ∷ o) = inside_of part
+innermost (opened_at part p ∷ o) = inside_of part

@@ -7,7 +7,7 @@ use Rattle.blocks.specs.declared.item.Item.{Item}
 use Rattle.blocks.specs.declared.structure.Checked.{Checked}
 use Rattle.blocks.specs.declared.structure.Checked.TheVariants.{Fine, Refused}
 use Rattle.blocks.specs.Code.{Code}
-use Rattle.blocks.specs.Open.{Part, before, after, looping, Open, open_at_lem, in_loop}
+use Rattle.blocks.specs.Open.{Part, before, after, looping, Open, opened_at, in_loop}
 use Rattle.lanes.specs.Blocks.{nesting}
 
 -- what comes of one instruction: the pass is over, or goes on at a place with these blocks open
@@ -21,28 +21,28 @@ stray at = over (Refused (broken Rule.stray at))
 
 -- IF and LOOP open a block; refusal 9: a 33rd
 abbrev pub opens : Part → ℕ → List Open → Next
-opens part at o = cond (ltb (length o) nesting) (go (at + 1) (open_at_lem part at ∷ o)) (over (Refused (broken Rule.depth at)))
+opens part at o = cond (ltb (length o) nesting) (go (at + 1) (opened_at part at ∷ o)) (over (Refused (broken Rule.depth at)))
 
 -- ELSE stands directly in its IF, once
 abbrev pub elses : ℕ → List Open → Next
 elses at [] = stray at
-elses at (open_at_lem before p ∷ o) = go (at + 1) (open_at_lem after p ∷ o)
-elses at (open_at_lem after p ∷ o) = stray at
-elses at (open_at_lem looping p ∷ o) = stray at
+elses at (opened_at before p ∷ o) = go (at + 1) (opened_at after p ∷ o)
+elses at (opened_at after p ∷ o) = stray at
+elses at (opened_at looping p ∷ o) = stray at
 
 -- ENDIF closes an IF
 abbrev pub ends_if : ℕ → List Open → Next
 ends_if at [] = stray at
-ends_if at (open_at_lem before p ∷ o) = go (at + 1) o
-ends_if at (open_at_lem after p ∷ o) = go (at + 1) o
-ends_if at (open_at_lem looping p ∷ o) = stray at
+ends_if at (opened_at before p ∷ o) = go (at + 1) o
+ends_if at (opened_at after p ∷ o) = go (at + 1) o
+ends_if at (opened_at looping p ∷ o) = stray at
 
 -- ENDLOOP closes a loop
 abbrev pub ends_loop : ℕ → List Open → Next
 ends_loop at [] = stray at
-ends_loop at (open_at_lem before p ∷ o) = stray at
-ends_loop at (open_at_lem after p ∷ o) = stray at
-ends_loop at (open_at_lem looping p ∷ o) = go (at + 1) o
+ends_loop at (opened_at before p ∷ o) = stray at
+ends_loop at (opened_at after p ∷ o) = stray at
+ends_loop at (opened_at looping p ∷ o) = go (at + 1) o
 
 -- BREAK and CONTINUE stand inside some loop, at any depth of IF
 abbrev pub jumps : ℕ → List Open → Next
@@ -62,7 +62,7 @@ react (Item.Bad r) at o = over (Refused r)
 -- the end of the code; refusal 10: a block is open there
 unfoldable pub ended : List Open → Checked
 ended [] = Fine
-ended (open_at_lem part p ∷ o) = Refused (broken Rule.unclosed p)
+ended (opened_at part p ∷ o) = Refused (broken Rule.unclosed p)
 
 unfoldable pub step : Code → ℕ → List Open → Next
 step code at o = cond (ltb at code.size) (react (code.item at) at o) (over (ended o))

@@ -11,7 +11,7 @@ use Rattle.lanes.specs.Sets.{bit, first, widest}
 use Rattle.lanes.proofs.Bits.{within_first_lt}
 use Rattle.blocks.specs.declared.item.Reading.{Reading}
 use Rattle.blocks.specs.Code.{code_of}
-use Rattle.blocks.specs.Open.{Part, before, after, looping, Open, open_at_lem, part_number}
+use Rattle.blocks.specs.Open.{Part, before, after, looping, Open, opened_at, part_number}
 use Rattle.nesting.specs.OpenAt.{Found, nowhere, there, open_at}
 use Rattle.blocks.proofs.Widths.{code_fits}
 use Rattle.nesting.proofs.Openers.{EachOpened, each_opened}
@@ -47,7 +47,7 @@ module _ (code : List ℕ) (by : Reading) (n : ℕ) (wide : n ≤ widest) where
   unfolding EachOpened
   sized h m [] o s r f q = tt
   sized h m (b ∷ p) [] s r f q = absurd s
-  sized h m (b ∷ p) (open_at_lem part at ∷ o) s r f q =
+  sized h m (b ∷ p) (opened_at part at ∷ o) s r f q =
       let k = part_sized part in
       let inside : at < length code = r.0.in_code in (
         record {

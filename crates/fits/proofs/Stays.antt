@@ -19,7 +19,7 @@ use Rattle.blocks.specs.declared.item.Reading.{Reading}
 use Rattle.blocks.specs.declared.structure.Checked.TheVariants.{Fine}
 use Rattle.blocks.specs.Item.{control_item, item_at}
 use Rattle.blocks.specs.Code.{code_of}
-use Rattle.blocks.specs.Open.{Open, open_at_lem, before, after, looping, in_loop}
+use Rattle.blocks.specs.Open.{Open, opened_at, before, after, looping, in_loop}
 use Rattle.lanes.specs.Blocks.{nesting}
 use Rattle.blocks.specs.Scan.{check_of}
 use Rattle.nesting.specs.OpenAt.{Found, nowhere, there, open_at}
@@ -70,9 +70,9 @@ unfolding in_loop
 some_loop [] [] s l = never l
 some_loop [] (x ∷ o) s l = absurd s
 some_loop (b ∷ p) [] s l = absurd s
-some_loop (b ∷ p) (open_at_lem before q ∷ o) s l = rw s.0 (some_loop p o s.2 l)
-some_loop (b ∷ p) (open_at_lem after q ∷ o) s l = rw s.0 (some_loop p o s.2 l)
-some_loop (b ∷ p) (open_at_lem looping q ∷ o) s l = rw s.0 tt
+some_loop (b ∷ p) (opened_at before q ∷ o) s l = rw s.0 (some_loop p o s.2 l)
+some_loop (b ∷ p) (opened_at after q ∷ o) s l = rw s.0 (some_loop p o s.2 l)
+some_loop (b ∷ p) (opened_at looping q ∷ o) s l = rw s.0 tt
 
 -- what the code has open where the wave's blocks are
 record Found-there (f : Found) (p : List Block) : Type 0 where
@@ -134,25 +134,25 @@ module _ (words : List ℕ) (by : Reading) (checked : check_of (code_of words by
     else_stays [] [] s a = absurd a
     else_stays [] (x ∷ o) s a = absurd s
     else_stays (b ∷ p) [] s a = absurd s
-    else_stays (b ∷ p) (open_at_lem before q ∷ o) s a =
-        (s.0, stands_next w.place (else_on (b ∷ p) w).path (open_at_lem after q ∷ o) h a (refl, s.1, s.2))
-    else_stays (b ∷ p) (open_at_lem after q ∷ o) s a = absurd a
-    else_stays (b ∷ p) (open_at_lem looping q ∷ o) s a = absurd a
+    else_stays (b ∷ p) (opened_at before q ∷ o) s a =
+        (s.0, stands_next w.place (else_on (b ∷ p) w).path (opened_at after q ∷ o) h a (refl, s.1, s.2))
+    else_stays (b ∷ p) (opened_at after q ∷ o) s a = absurd a
+    else_stays (b ∷ p) (opened_at looping q ∷ o) s a = absurd a
 
     endif_stays : (p : List Block) (o : List Open) → Same p o → Allowed (code_of words by) Item.Endif w.place o
         → TopLoop false p × OpenThere (open_at (code_of words by) (endif_on p w).place) (endif_on p w).path
     endif_stays [] [] s a = absurd a
     endif_stays [] (x ∷ o) s a = absurd s
     endif_stays (b ∷ p) [] s a = absurd s
-    endif_stays (b ∷ p) (open_at_lem before q ∷ o) s a = (rw s.0, stands_next w.place p o h a s.2)
-    endif_stays (b ∷ p) (open_at_lem after q ∷ o) s a = (rw s.0, stands_next w.place p o h a s.2)
-    endif_stays (b ∷ p) (open_at_lem looping q ∷ o) s a = absurd a
+    endif_stays (b ∷ p) (opened_at before q ∷ o) s a = (rw s.0, stands_next w.place p o h a s.2)
+    endif_stays (b ∷ p) (opened_at after q ∷ o) s a = (rw s.0, stands_next w.place p o h a s.2)
+    endif_stays (b ∷ p) (opened_at looping q ∷ o) s a = absurd a
 
     endloop_case : (c : Bool) (b : Block) (p : List Block) (q : ℕ) (o : List Open) → eqb (bit_or w.active b.again) 0 ≡ c
-        → Same (b ∷ p) (open_at_lem looping q ∷ o) → Allowed (code_of words by) Item.Endloop w.place (open_at_lem looping q ∷ o) → q < length words
+        → Same (b ∷ p) (opened_at looping q ∷ o) → Allowed (code_of words by) Item.Endloop w.place (opened_at looping q ∷ o) → q < length words
         → OpenThere (open_at (code_of words by) (endloop_on (b ∷ p) w).place) (endloop_on (b ∷ p) w).path
     endloop_case true b p q o e s a l = rw e (stands_next w.place p o h a.0 s.2)
-    endloop_case false b p q o e s a l = rw (e, s.1) (stands_next q _ (open_at_lem looping q ∷ o) l a.1 (s.0, refl, s.2))
+    endloop_case false b p q o e s a l = rw (e, s.1) (stands_next q _ (opened_at looping q ∷ o) l a.1 (s.0, refl, s.2))
 
     endloop_stays : (p : List Block) (o : List Open) → Same p o → EachOpened (code_of words by) o
         → Allowed (code_of words by) Item.Endloop w.place o
@@ -161,9 +161,9 @@ module _ (words : List ℕ) (by : Reading) (checked : check_of (code_of words by
     endloop_stays [] [] s r a = absurd a
     endloop_stays [] (x ∷ o) s r a = absurd s
     endloop_stays (b ∷ p) [] s r a = absurd s
-    endloop_stays (b ∷ p) (open_at_lem before q ∷ o) s r a = absurd a
-    endloop_stays (b ∷ p) (open_at_lem after q ∷ o) s r a = absurd a
-    endloop_stays (b ∷ p) (open_at_lem looping q ∷ o) s r a = (rw s.0, endloop_case _ b p q o refl s a r.0.in_code)
+    endloop_stays (b ∷ p) (opened_at before q ∷ o) s r a = absurd a
+    endloop_stays (b ∷ p) (opened_at after q ∷ o) s r a = absurd a
+    endloop_stays (b ∷ p) (opened_at looping q ∷ o) s r a = (rw s.0, endloop_case _ b p q o refl s a r.0.in_code)
 
     barrier_stays : (c : Bool) (o : List Open) → open_at (code_of words by) w.place ≡ there o
         → open_at (code_of words by) (w.place + 1) ≡ there o → Same w.path o
@@ -179,7 +179,7 @@ module _ (words : List ℕ) (by : Reading) (checked : check_of (code_of words by
         record {
           ready = r;
           blocks = rw (lt-ltb (length w.path) nesting r)
-              (stands_next w.place _ (open_at_lem before w.place ∷ o) h a.1 (refl, refl, s));
+              (stands_next w.place _ (opened_at before w.place ∷ o) h a.1 (refl, refl, s));
         }
     stays Else all t o e s a = let r = else_stays w.path o s a in record { ready = r.0; blocks = r.1 }
     stays Endif all t o e s a = let r = endif_stays w.path o s a in record { ready = r.0; blocks = r.1 }
@@ -188,7 +188,7 @@ module _ (words : List ℕ) (by : Reading) (checked : check_of (code_of words by
         record {
           ready = r;
           blocks = rw (lt-ltb (length w.path) nesting r)
-              (stands_next w.place _ (open_at_lem looping w.place ∷ o) h a.1 (refl, refl, s));
+              (stands_next w.place _ (opened_at looping w.place ∷ o) h a.1 (refl, refl, s));
         }
     stays Break all t o e s a =
         record {

@@ -15,7 +15,7 @@ use Rattle.blocks.specs.declared.structure.Checked.TheVariants.{Refused}
 use Rattle.nesting.specs.declared.places.Stack.{Stack}
 use Rattle.nesting.specs.declared.places.Moved.{Moved}
 use Rattle.blocks.specs.Code.{Code}
-use Rattle.blocks.specs.Open.{Part, Open, open_at_lem, innermost}
+use Rattle.blocks.specs.Open.{Part, Open, opened_at, innermost}
 use Rattle.blocks.specs.Scan.{Next, over, go, ended, react, step}
 use Rattle.blocks.specs.Rules.{turn_of}
 use Rattle.blocks.specs.Levels.{around, InLevel}
@@ -38,13 +38,13 @@ pub stopped : (code : Code) (at : ℕ) (o : List Open) (s : Stack) → code.size
 stopped code at o s h = subst (λ (x : Next). Advances x (record { on = false; at = at; stack = s })) (sym (step_past code at o h)) refl
 
 -- a block that was entered is the one that was put on the stack
-entered_is : (n o : List Open) (k : Inside) (at : ℕ) → innermost n ≡ k → around n ≡ o → ended n ≡ Refused (broken Rule.unclosed at) → n ≡ open_at_lem (part_of k) at ∷ o
+entered_is : (n o : List Open) (k : Inside) (at : ℕ) → innermost n ≡ k → around n ≡ o → ended n ≡ Refused (broken Rule.unclosed at) → n ≡ opened_at (part_of k) at ∷ o
 unfolding innermost around ended
 entered_is [] o k at e f g = let z : ◌≡◌ {A = ℕ} 0 1 = cc in absurd (omega arith)
-entered_is (open_at_lem j p ∷ n) o k at e f g =
+entered_is (opened_at j p ∷ n) o k at e f g =
     let q : p ≡ at = same_place (broken Rule.unclosed p) (broken Rule.unclosed at) g in
     let i : j ≡ part_of k = sym (part_of_inside j) ∙ ap part_of e in
-    ap (λ (x : Part). open_at_lem x p ∷ n) i ∙ ap (λ (x : ℕ). open_at_lem (part_of k) x ∷ n) q ∙ ap (λ (x : List Open). open_at_lem (part_of k) at ∷ x) f
+    ap (λ (x : Part). opened_at x p ∷ n) i ∙ ap (λ (x : ℕ). opened_at (part_of k) x ∷ n) q ∙ ap (λ (x : List Open). opened_at (part_of k) at ∷ x) f
 
 module _ {code : Code} {at : ℕ} {s : Stack} {part : Inside} {l : Bool} {u : Turn} (j : Ready code at s part l u) where
   standing : (o : List Open) → Holds s o → InLevel (nesting - s.depth) part l o
@@ -83,7 +83,7 @@ module _ {code : Code} {at : ℕ} {s : Stack} {part : Inside} {l : Bool} {u : Tu
       let ok : 1 ≤ nesting - s.depth = fine (Enter k b) e in
       omega (arith, loops_le o, h.depth_is, h.loops_is)
 
-  pub enter : {k : Inside} {b : Bool} (r : Stack) → u ≡ Enter k b → ((o : List Open) → Holds s o → Holds r (open_at_lem (part_of k) at ∷ o))
+  pub enter : {k : Inside} {b : Bool} (r : Stack) → u ≡ Enter k b → ((o : List Open) → Holds s o → Holds r (opened_at (part_of k) at ∷ o))
       → (o : List Open) → Holds s o → Advances (step code at o) (record { on = true; at = at + 1; stack = r })
   enter {k} {b} r e f o h =
       let g : Entered at (nesting - s.depth) k b o (react (code.item at) at o) = told (code.item at) at (nesting - s.depth) part l o (standing o h) (Enter k b) (j.turn ∙ e) in

@@ -18,7 +18,7 @@ use Rattle.blocks.specs.declared.item.Reading.{Reading}
 use Rattle.blocks.specs.declared.rules.Inside.{Inside}
 use Rattle.blocks.specs.declared.structure.Checked.TheVariants.{Refused}
 use Rattle.blocks.specs.Code.{Code, code_of}
-use Rattle.blocks.specs.Open.{Part, before, after, looping, Open, open_at_lem, in_loop, innermost}
+use Rattle.blocks.specs.Open.{Part, before, after, looping, Open, opened_at, in_loop, innermost}
 use Rattle.blocks.specs.Scan.{Next, over, go, stray, ended, react, step, carry, run, check_of}
 use Rattle.nesting.specs.Nesting.{nothing, Opened, outside, Broken, at_words, at_instruction, at_end}
 use Rattle.nesting.specs.Nesting.{Misplaced, stray_else, stray_endif, stray_endloop, stray_jump, deep_if, deep_loop}
@@ -33,20 +33,22 @@ use Rattle.nesting.proofs.Nested.{opened_room, Led, led_step, opened_run}
 breaks_stops : (o : List Open) (i : Item) (r : Refusal) (at : ℕ) → Misplaced o at i r → react i at o ≡ over (Refused r)
 unfolding react innermost
 breaks_stops [] Item.Else r at (stray_else f) = refl
-breaks_stops (open_at_lem before p ∷ o) Item.Else r at (stray_else f) = absurd (f refl)
-breaks_stops (open_at_lem after p ∷ o) Item.Else r at (stray_else f) = refl
-breaks_stops (open_at_lem looping p ∷ o) Item.Else r at (stray_else f) = refl
+breaks_stops (opened_at before p ∷ o) Item.Else r at (stray_else f) = absurd (f refl)
+breaks_stops (opened_at after p ∷ o) Item.Else r at (stray_else f) = refl
+breaks_stops (opened_at looping p ∷ o) Item.Else r at (stray_else f) = refl
 breaks_stops [] Item.Endif r at (stray_endif f g) = refl
-breaks_stops (open_at_lem before p ∷ o) Item.Endif r at (stray_endif f g) = absurd (f refl)
-breaks_stops (open_at_lem after p ∷ o) Item.Endif r at (stray_endif f g) = absurd (g refl)
-breaks_stops (open_at_lem looping p ∷ o) Item.Endif r at (stray_endif f g) = refl
+breaks_stops (opened_at before p ∷ o) Item.Endif r at (stray_endif f g) = absurd (f refl)
+breaks_stops (opened_at after p ∷ o) Item.Endif r at (stray_endif f g) = absurd (g refl)
+breaks_stops (opened_at looping p ∷ o) Item.Endif r at (stray_endif f g) = refl
 breaks_stops [] Item.Endloop r at (stray_endloop f) = refl
-breaks_stops (open_at_lem before p ∷ o) Item.Endloop r at (stray_endloop f) = refl
-breaks_stops (open_at_lem after p ∷ o) Item.Endloop r at (stray_endloop f) = refl
-breaks_stops (open_at_lem looping p ∷ o) Item.Endloop r at (stray_endloop f) = absurd (f refl)
+breaks_stops (opened_at before p ∷ o) Item.Endloop r at (stray_endloop f) = refl
+breaks_stops (opened_at after p ∷ o) Item.Endloop r at (stray_endloop f) = refl
+breaks_stops (opened_at looping p ∷ o) Item.Endloop r at (stray_endloop f) = absurd (f refl)
 breaks_stops o Item.Jump r at (stray_jump e) = rw e refl
 breaks_stops o Item.If r at (deep_if e) = rw (le-ltb (length o) nesting (omega arith)) refl
 breaks_stops o Item.Loop r at (deep_loop e) = rw (le-ltb (length o) nesting (omega arith)) refl
+breaks_stops o (Item.Plain w) r at h = elim h [ ]
+breaks_stops o (Item.Bad q) r at h = elim h [ ]
 
 module _ (words : List ℕ) (by : Reading) where
   abbrev kernel : Code
@@ -64,8 +66,8 @@ module _ (words : List ℕ) (by : Reading) where
       opened_run words by room o at x
       ∙ run_to kernel fits at o (over (Refused r)) s.0 (ap (λ (i : Item). react i at o) s.1 ∙ breaks_stops o item r at b)
   broken_refused r (at_end {room} {p} {part = part} {o = o} x) =
-      opened_run words by room (open_at_lem part p ∷ o) kernel.size x
-      ∙ run_past kernel fits kernel.size (open_at_lem part p ∷ o) (omega arith)
+      opened_run words by room (opened_at part p ∷ o) kernel.size x
+      ∙ run_past kernel fits kernel.size (opened_at part p ∷ o) (omega arith)
 
 -- ---- and one that stops the pass breaks a rule
 
@@ -75,7 +77,7 @@ Stopped i o at (over v) = (r : Refusal) × (v ≡ Refused r) × ((i ≡ Item.Bad
 Stopped i o at (go a q) = Unit {0}
 
 stopped_opening : (i : Item) (part : Part) (o : List Open) (at : ℕ) → length o ≤ nesting → (length o ≡ nesting → Misplaced o at i (broken Rule.depth at))
-    → Stopped i o at (cond (ltb (length o) nesting) (go (at + 1) (open_at_lem part at ∷ o)) (over (Refused (broken Rule.depth at))))
+    → Stopped i o at (cond (ltb (length o) nesting) (go (at + 1) (opened_at part at ∷ o)) (over (Refused (broken Rule.depth at))))
 stopped_opening i part o at l f =
     dite (dec_lt (length o) nesting)
     (λ h. rw (lt-ltb (length o) nesting h) tt)
@@ -100,19 +102,19 @@ unfolding react innermost
 stopped (Item.Plain w) o at l = tt
 stopped Item.If o at l = stopped_opening Item.If before o at l deep_if
 stopped Item.Else [] at l = (_, refl, inr (stray_else (other _ _ (λ e. omega arith))))
-stopped Item.Else (open_at_lem before p ∷ o) at l = tt
-stopped Item.Else (open_at_lem after p ∷ o) at l = (_, refl, inr (stray_else (other _ _ (λ e. omega arith))))
-stopped Item.Else (open_at_lem looping p ∷ o) at l = (_, refl, inr (stray_else (other _ _ (λ e. omega arith))))
+stopped Item.Else (opened_at before p ∷ o) at l = tt
+stopped Item.Else (opened_at after p ∷ o) at l = (_, refl, inr (stray_else (other _ _ (λ e. omega arith))))
+stopped Item.Else (opened_at looping p ∷ o) at l = (_, refl, inr (stray_else (other _ _ (λ e. omega arith))))
 stopped Item.Endif [] at l = (_, refl, inr (stray_endif (other _ _ (λ e. omega arith)) (other _ _ (λ e. omega arith))))
-stopped Item.Endif (open_at_lem before p ∷ o) at l = tt
-stopped Item.Endif (open_at_lem after p ∷ o) at l = tt
-stopped Item.Endif (open_at_lem looping p ∷ o) at l = (_, refl, inr (stray_endif (other _ _ (λ e. omega arith)) (other _ _ (λ e. omega arith))))
+stopped Item.Endif (opened_at before p ∷ o) at l = tt
+stopped Item.Endif (opened_at after p ∷ o) at l = tt
+stopped Item.Endif (opened_at looping p ∷ o) at l = (_, refl, inr (stray_endif (other _ _ (λ e. omega arith)) (other _ _ (λ e. omega arith))))
 stopped Item.Loop o at l = stopped_opening Item.Loop looping o at l deep_loop
 stopped Item.Jump o at l = stopped_jump o at (in_loop o) refl
 stopped Item.Endloop [] at l = (_, refl, inr (stray_endloop (other _ _ (λ e. omega arith))))
-stopped Item.Endloop (open_at_lem before p ∷ o) at l = (_, refl, inr (stray_endloop (other _ _ (λ e. omega arith))))
-stopped Item.Endloop (open_at_lem after p ∷ o) at l = (_, refl, inr (stray_endloop (other _ _ (λ e. omega arith))))
-stopped Item.Endloop (open_at_lem looping p ∷ o) at l = tt
+stopped Item.Endloop (opened_at before p ∷ o) at l = (_, refl, inr (stray_endloop (other _ _ (λ e. omega arith))))
+stopped Item.Endloop (opened_at after p ∷ o) at l = (_, refl, inr (stray_endloop (other _ _ (λ e. omega arith))))
+stopped Item.Endloop (opened_at looping p ∷ o) at l = tt
 stopped (Item.Bad r) o at l = (r, refl, inl refl)
 
 -- what breaks a rule of blocks is no refusal
@@ -123,6 +125,8 @@ breaks_carried o at Item.Endloop r (stray_endloop f) = tt
 breaks_carried o at Item.Jump r (stray_jump e) = tt
 breaks_carried o at Item.If r (deep_if e) = tt
 breaks_carried o at Item.Loop r (deep_loop e) = tt
+breaks_carried o at (Item.Plain w) r h = elim h [ ]
+breaks_carried o at (Item.Bad q) r h = elim h [ ]
 
 module _ (words : List ℕ) (by : Reading) (r : Refusal) where
   abbrev code : Code
@@ -134,7 +138,7 @@ module _ (words : List ℕ) (by : Reading) (r : Refusal) where
   by_end : (room at : ℕ) (o : List Open) → at ≡ code.size → Opened words by room o at → ended o ≡ Refused r → Broken words by r
   unfolding ended
   by_end room at [] e x f = refused_not_fine r (sym f)
-  by_end room at (open_at_lem part p ∷ o) e x f = broken_as (broken Rule.unclosed p) (at_end (rw e at x)) f
+  by_end room at (opened_at part p ∷ o) e x f = broken_as (broken Rule.unclosed p) (at_end (rw e at x)) f
 
   -- by the words alone, or by a rule of blocks
   by_rule : (room at : ℕ) (q : Refusal) (o : List Open) → Opened words by room o at → at < code.size

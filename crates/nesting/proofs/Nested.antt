@@ -16,7 +16,7 @@ use Rattle.blocks.specs.declared.item.Item.{Item}
 use Rattle.blocks.specs.declared.item.Reading.{Reading}
 use Rattle.blocks.specs.declared.structure.Checked.TheVariants.{Fine, Refused}
 use Rattle.blocks.specs.Code.{Code, code_of}
-use Rattle.blocks.specs.Open.{Part, before, after, looping, Open, open_at_lem, in_loop}
+use Rattle.blocks.specs.Open.{Part, before, after, looping, Open, opened_at, in_loop}
 use Rattle.blocks.specs.Scan.{Next, over, go, stray, ended, react, step, carry, run, check_of}
 use Rattle.nesting.specs.OpenAt.{there, open_at}
 use Rattle.nesting.specs.Nesting.{Has, Whole, nothing, plain, jump, choice, choice_of_two, loop, Nested}
@@ -37,9 +37,9 @@ module _ (words : List ℕ) (by : Reading) (P : ℕ → List Open → Type 0)
       kept at o a q p (step_in (code_of words by) at o s.0 ∙ ap (λ (j : Item). react j at o) s.1 ∙ e)
 
   entered : (i : Item) (part : Part) (at : ℕ) (o : List Open) → Has words by at i
-      → react i at o ≡ cond (ltb (length o) nesting) (go (at + 1) (open_at_lem part at ∷ o)) (over (Refused (broken Rule.depth at))) → length o < nesting
-      → P at o → P (at + 1) (open_at_lem part at ∷ o)
-  entered i part at o h e b = moved i at o (at + 1) (open_at_lem part at ∷ o) h (e ∙ rw (lt-ltb (length o) nesting b) refl)
+      → react i at o ≡ cond (ltb (length o) nesting) (go (at + 1) (opened_at part at ∷ o)) (over (Refused (broken Rule.depth at))) → length o < nesting
+      → P at o → P (at + 1) (opened_at part at ∷ o)
+  entered i part at o h e b = moved i at o (at + 1) (opened_at part at ∷ o) h (e ∙ rw (lt-ltb (length o) nesting b) refl)
 
   passed : (room : ℕ) (looped : Bool) (at to : ℕ) → Whole words by room looped at to → (o : List Open) → length o + room ≡ nesting → in_loop o ≡ looped
       → P at o → P to o
@@ -51,42 +51,42 @@ module _ (words : List ℕ) (by : Reading) (P : ℕ → List Open → Type 0)
       passed room true (at + 1) to rest o r l (moved Item.Jump at o (at + 1) o h (rw l refl) p)
   passed (suc room) looped at to (choice end h first f rest) o r l p =
       passed (suc room) looped (end + 1) to rest o r l
-      (moved Item.Endif end (open_at_lem before at ∷ o) (end + 1) o f refl
-      (passed room looped (at + 1) end first (open_at_lem before at ∷ o) (omega arith) l
+      (moved Item.Endif end (opened_at before at ∷ o) (end + 1) o f refl
+      (passed room looped (at + 1) end first (opened_at before at ∷ o) (omega arith) l
       (entered Item.If before at o h refl (omega arith) p)))
   passed (suc room) looped at to (choice_of_two other end h first g second f rest) o r l p =
       passed (suc room) looped (end + 1) to rest o r l
-      (moved Item.Endif end (open_at_lem after at ∷ o) (end + 1) o f refl
-      (passed room looped (other + 1) end second (open_at_lem after at ∷ o) (omega arith) l
-      (moved Item.Else other (open_at_lem before at ∷ o) (other + 1) (open_at_lem after at ∷ o) g refl
-      (passed room looped (at + 1) other first (open_at_lem before at ∷ o) (omega arith) l
+      (moved Item.Endif end (opened_at after at ∷ o) (end + 1) o f refl
+      (passed room looped (other + 1) end second (opened_at after at ∷ o) (omega arith) l
+      (moved Item.Else other (opened_at before at ∷ o) (other + 1) (opened_at after at ∷ o) g refl
+      (passed room looped (at + 1) other first (opened_at before at ∷ o) (omega arith) l
       (entered Item.If before at o h refl (omega arith) p)))))
   passed (suc room) looped at to (loop end h body f rest) o r l p =
       passed (suc room) looped (end + 1) to rest o r l
-      (moved Item.Endloop end (open_at_lem looping at ∷ o) (end + 1) o f refl
-      (passed room true (at + 1) end body (open_at_lem looping at ∷ o) (omega arith) refl
+      (moved Item.Endloop end (opened_at looping at ∷ o) (end + 1) o f refl
+      (passed room true (at + 1) end body (opened_at looping at ∷ o) (omega arith) refl
       (entered Item.Loop looping at o h refl (omega arith) p)))
 
   -- so it holds wherever these blocks are open
   pub at_opened : P 0 [] → (room : ℕ) (o : List Open) (at : ℕ) → Opened words by room o at → (length o + room ≡ nesting) × P at o
   unfolding react in_loop
   at_opened s room o at (outside w) = (refl, passed nesting false 0 at w [] refl refl s)
-  at_opened s room (open_at_lem before p ∷ o) at (in_first _ x h w) =
+  at_opened s room (opened_at before p ∷ o) at (in_first _ x h w) =
       let z = at_opened s (suc room) o p x in (
         omega (arith, z.0),
-        passed room (in_loop o) (p + 1) at w (open_at_lem before p ∷ o) (omega (arith, z.0)) refl
+        passed room (in_loop o) (p + 1) at w (opened_at before p ∷ o) (omega (arith, z.0)) refl
             (entered Item.If before p o h refl (omega (arith, z.0)) z.1),
       )
-  at_opened s room (open_at_lem after p ∷ o) at (in_second _ other x h w) =
-      let z = at_opened s room (open_at_lem before p ∷ o) other x in (
+  at_opened s room (opened_at after p ∷ o) at (in_second _ other x h w) =
+      let z = at_opened s room (opened_at before p ∷ o) other x in (
         z.0,
-        passed room (in_loop o) (other + 1) at w (open_at_lem after p ∷ o) z.0 refl
-            (moved Item.Else other (open_at_lem before p ∷ o) (other + 1) (open_at_lem after p ∷ o) h refl z.1),
+        passed room (in_loop o) (other + 1) at w (opened_at after p ∷ o) z.0 refl
+            (moved Item.Else other (opened_at before p ∷ o) (other + 1) (opened_at after p ∷ o) h refl z.1),
       )
-  at_opened s room (open_at_lem looping p ∷ o) at (in_body _ x h w) =
+  at_opened s room (opened_at looping p ∷ o) at (in_body _ x h w) =
       let z = at_opened s (suc room) o p x in (
         omega (arith, z.0),
-        passed room true (p + 1) at w (open_at_lem looping p ∷ o) (omega (arith, z.0)) refl
+        passed room true (p + 1) at w (opened_at looping p ∷ o) (omega (arith, z.0)) refl
             (entered Item.Loop looping p o h refl (omega (arith, z.0)) z.1),
       )
 
@@ -113,20 +113,20 @@ module _ (words : List ℕ) (by : Reading) where
   onward : (room : ℕ) (o : List Open) (at to : ℕ) → Opened words by room o at → Whole words by room (in_loop o) at to → Opened words by room o to
   unfolding in_loop
   onward room o at to (outside w) v = outside (append nesting false 0 at to w v)
-  onward room (open_at_lem before p ∷ o) at to (in_first _ x h w) v = in_first p x h (append room (in_loop o) (p + 1) at to w v)
-  onward room (open_at_lem after p ∷ o) at to (in_second _ other x h w) v = in_second p other x h (append room (in_loop o) (other + 1) at to w v)
-  onward room (open_at_lem looping p ∷ o) at to (in_body _ x h w) v = in_body p x h (append room true (p + 1) at to w v)
+  onward room (opened_at before p ∷ o) at to (in_first _ x h w) v = in_first p x h (append room (in_loop o) (p + 1) at to w v)
+  onward room (opened_at after p ∷ o) at to (in_second _ other x h w) v = in_second p other x h (append room (in_loop o) (other + 1) at to w v)
+  onward room (opened_at looping p ∷ o) at to (in_body _ x h w) v = in_body p x h (append room true (p + 1) at to w v)
 
   -- a block that closes is one whole block more
-  shut_first : (room p : ℕ) (o : List Open) (at : ℕ) → Opened words by room (open_at_lem before p ∷ o) at → Has words by at Item.Endif
+  shut_first : (room p : ℕ) (o : List Open) (at : ℕ) → Opened words by room (opened_at before p ∷ o) at → Has words by at Item.Endif
       → Opened words by (suc room) o (at + 1)
   shut_first room p o at (in_first _ x h w) f = onward (suc room) o p (at + 1) x (choice at h w f nothing)
 
-  shut_second : (room p : ℕ) (o : List Open) (at : ℕ) → Opened words by room (open_at_lem after p ∷ o) at → Has words by at Item.Endif
+  shut_second : (room p : ℕ) (o : List Open) (at : ℕ) → Opened words by room (opened_at after p ∷ o) at → Has words by at Item.Endif
       → Opened words by (suc room) o (at + 1)
   shut_second room p o at (in_second _ other (in_first _ x h w) g v) f = onward (suc room) o p (at + 1) x (choice_of_two other at h w g v f nothing)
 
-  shut_body : (room p : ℕ) (o : List Open) (at : ℕ) → Opened words by room (open_at_lem looping p ∷ o) at → Has words by at Item.Endloop
+  shut_body : (room p : ℕ) (o : List Open) (at : ℕ) → Opened words by room (opened_at looping p ∷ o) at → Has words by at Item.Endloop
       → Opened words by (suc room) o (at + 1)
   shut_body room p o at (in_body _ x h w) f = onward (suc room) o p (at + 1) x (loop at h w f nothing)
 
@@ -136,8 +136,8 @@ module _ (words : List ℕ) (by : Reading) where
   Led (go a q) = (room : ℕ) × Opened words by room q a
 
   led_in : (part : Part) (at room : ℕ) (o : List Open) → length o + room ≡ nesting
-      → ((inner : ℕ) → room ≡ suc inner → Opened words by inner (open_at_lem part at ∷ o) (at + 1))
-      → Led (cond (ltb (length o) nesting) (go (at + 1) (open_at_lem part at ∷ o)) (over (Refused (broken Rule.depth at))))
+      → ((inner : ℕ) → room ≡ suc inner → Opened words by inner (opened_at part at ∷ o) (at + 1))
+      → Led (cond (ltb (length o) nesting) (go (at + 1) (opened_at part at ∷ o)) (over (Refused (broken Rule.depth at))))
   led_in part at zero o l f = rw (le-ltb (length o) nesting (omega arith)) tt
   led_in part at (suc room) o l f = rw (lt-ltb (length o) nesting (omega arith)) (room, f room refl)
 
@@ -157,21 +157,21 @@ module _ (words : List ℕ) (by : Reading) where
       led_in before at room o (opened_room words by room o at x)
       (λ inner e. in_first at (rw e at x) (has words by at h.0 Item.If tt h.1) nothing)
   led Item.Else at room [] h x = tt
-  led Item.Else at room (open_at_lem before p ∷ o) h x = (room, in_second p at x (has words by at h.0 Item.Else tt h.1) nothing)
-  led Item.Else at room (open_at_lem after p ∷ o) h x = tt
-  led Item.Else at room (open_at_lem looping p ∷ o) h x = tt
+  led Item.Else at room (opened_at before p ∷ o) h x = (room, in_second p at x (has words by at h.0 Item.Else tt h.1) nothing)
+  led Item.Else at room (opened_at after p ∷ o) h x = tt
+  led Item.Else at room (opened_at looping p ∷ o) h x = tt
   led Item.Endif at room [] h x = tt
-  led Item.Endif at room (open_at_lem before p ∷ o) h x = (suc room, shut_first room p o at x (has words by at h.0 Item.Endif tt h.1))
-  led Item.Endif at room (open_at_lem after p ∷ o) h x = (suc room, shut_second room p o at x (has words by at h.0 Item.Endif tt h.1))
-  led Item.Endif at room (open_at_lem looping p ∷ o) h x = tt
+  led Item.Endif at room (opened_at before p ∷ o) h x = (suc room, shut_first room p o at x (has words by at h.0 Item.Endif tt h.1))
+  led Item.Endif at room (opened_at after p ∷ o) h x = (suc room, shut_second room p o at x (has words by at h.0 Item.Endif tt h.1))
+  led Item.Endif at room (opened_at looping p ∷ o) h x = tt
   led Item.Loop at room o h x =
       led_in looping at room o (opened_room words by room o at x)
       (λ inner e. in_body at (rw e at x) (has words by at h.0 Item.Loop tt h.1) nothing)
   led Item.Jump at room o h x = led_jump at room o (has words by at h.0 Item.Jump tt h.1) x (in_loop o) refl
   led Item.Endloop at room [] h x = tt
-  led Item.Endloop at room (open_at_lem before p ∷ o) h x = tt
-  led Item.Endloop at room (open_at_lem after p ∷ o) h x = tt
-  led Item.Endloop at room (open_at_lem looping p ∷ o) h x = (suc room, shut_body room p o at x (has words by at h.0 Item.Endloop tt h.1))
+  led Item.Endloop at room (opened_at before p ∷ o) h x = tt
+  led Item.Endloop at room (opened_at after p ∷ o) h x = tt
+  led Item.Endloop at room (opened_at looping p ∷ o) h x = (suc room, shut_body room p o at x (has words by at h.0 Item.Endloop tt h.1))
   led (Item.Bad r) at room o h x = tt
 
   pub led_step : (at : ℕ) (o : List Open) → ((room : ℕ) × Opened words by room o at) → Led (step code at o)

@@ -14,7 +14,7 @@ use Rattle.refusals.specs.Table.{Rule, broken}
 use Rattle.blocks.specs.declared.item.Item.{Item}
 use Rattle.blocks.specs.declared.structure.Checked.TheVariants.{Refused}
 use Rattle.blocks.specs.Code.{Code}
-use Rattle.blocks.specs.Open.{Part, before, after, looping, Open, open_at_lem, in_loop}
+use Rattle.blocks.specs.Open.{Part, before, after, looping, Open, opened_at, in_loop}
 use Rattle.blocks.specs.Scan.{Next, over, go, stray, react, step}
 use Rattle.nesting.specs.OpenAt.{there, open_at}
 use Rattle.blocks.proofs.Widths.{Fits}
@@ -38,12 +38,12 @@ pub record Opened (code : Code) (part : Part) (p : ℕ) (o : List Open) : Type 0
   pub in_code : p < code.size
   pub opener : code.item p ≡ opener_of part
   pub here : open_at code p ≡ there o
-  pub next : open_at code (p + 1) ≡ there (open_at_lem (opening part) p ∷ o)
+  pub next : open_at code (p + 1) ≡ there (opened_at (opening part) p ∷ o)
 
 -- each of the open blocks was opened where the blocks around it were open
 unfoldable pub EachOpened : Code → List Open → Type 0
 EachOpened code [] = Unit {0}
-EachOpened code (open_at_lem part p ∷ o) = Opened code part p o × EachOpened code o
+EachOpened code (opened_at part p ∷ o) = Opened code part p o × EachOpened code o
 
 record Nested (code : Code) (at : ℕ) (o : List Open) : Type 0 where
   found : open_at code at ≡ there o
@@ -56,8 +56,8 @@ NextOpened code (go a q) = EachOpened code q × (length q ≤ nesting)
 
 module _ (code : Code) (fits : Fits code) where
   opens_opened : (part : Part) (at : ℕ) (o : List Open) → opening part ≡ part → at < code.size → code.item at ≡ opener_of part → Nested code at o
-      → (b : Bool) → ltb (length o) nesting ≡ b → step code at o ≡ cond b (go (at + 1) (open_at_lem part at ∷ o)) (over (Refused (broken Rule.depth at)))
-      → NextOpened code (cond b (go (at + 1) (open_at_lem part at ∷ o)) (over (Refused (broken Rule.depth at))))
+      → (b : Bool) → ltb (length o) nesting ≡ b → step code at o ≡ cond b (go (at + 1) (opened_at part at ∷ o)) (over (Refused (broken Rule.depth at)))
+      → NextOpened code (cond b (go (at + 1) (opened_at part at ∷ o)) (over (Refused (broken Rule.depth at))))
   unfolding EachOpened
   opens_opened part at o first h i k true b e = (
     (
@@ -65,7 +65,7 @@ module _ (code : Code) (fits : Fits code) where
         in_code = h;
         opener = i;
         here = k.found;
-        next = going_on code fits at o (at + 1) (open_at_lem part at ∷ o) k.found e ∙ ap (λ (x : Part). there (open_at_lem x at ∷ o)) (sym first);
+        next = going_on code fits at o (at + 1) (opened_at part at ∷ o) k.found e ∙ ap (λ (x : Part). there (opened_at x at ∷ o)) (sym first);
       },
       k.opened,
     ),
@@ -82,21 +82,21 @@ module _ (code : Code) (fits : Fits code) where
   react_opened (Item.Plain w) at o h i k e = (k.opened, k.room)
   react_opened Item.If at o h i k e = opens_opened before at o refl h i k (ltb (length o) nesting) refl e
   react_opened Item.Else at [] h i k e = tt
-  react_opened Item.Else at (open_at_lem before p ∷ o) h i k e =
+  react_opened Item.Else at (opened_at before p ∷ o) h i k e =
       let b : Opened code before p o = k.opened.0 in
       ((record { in_code = b.in_code; opener = b.opener; here = b.here; next = b.next }, k.opened.1), k.room)
-  react_opened Item.Else at (open_at_lem after p ∷ o) h i k e = tt
-  react_opened Item.Else at (open_at_lem looping p ∷ o) h i k e = tt
+  react_opened Item.Else at (opened_at after p ∷ o) h i k e = tt
+  react_opened Item.Else at (opened_at looping p ∷ o) h i k e = tt
   react_opened Item.Endif at [] h i k e = tt
-  react_opened Item.Endif at (open_at_lem before p ∷ o) h i k e = (k.opened.1, omega (arith, k.room))
-  react_opened Item.Endif at (open_at_lem after p ∷ o) h i k e = (k.opened.1, omega (arith, k.room))
-  react_opened Item.Endif at (open_at_lem looping p ∷ o) h i k e = tt
+  react_opened Item.Endif at (opened_at before p ∷ o) h i k e = (k.opened.1, omega (arith, k.room))
+  react_opened Item.Endif at (opened_at after p ∷ o) h i k e = (k.opened.1, omega (arith, k.room))
+  react_opened Item.Endif at (opened_at looping p ∷ o) h i k e = tt
   react_opened Item.Loop at o h i k e = opens_opened looping at o refl h i k (ltb (length o) nesting) refl e
   react_opened Item.Jump at o h i k e = jump_opened at o k (in_loop o)
   react_opened Item.Endloop at [] h i k e = tt
-  react_opened Item.Endloop at (open_at_lem before p ∷ o) h i k e = tt
-  react_opened Item.Endloop at (open_at_lem after p ∷ o) h i k e = tt
-  react_opened Item.Endloop at (open_at_lem looping p ∷ o) h i k e = (k.opened.1, omega (arith, k.room))
+  react_opened Item.Endloop at (opened_at before p ∷ o) h i k e = tt
+  react_opened Item.Endloop at (opened_at after p ∷ o) h i k e = tt
+  react_opened Item.Endloop at (opened_at looping p ∷ o) h i k e = (k.opened.1, omega (arith, k.room))
   react_opened (Item.Bad r) at o h i k e = tt
 
   step_opened : (at : ℕ) (o : List Open) → Nested code at o → NextOpened code (step code at o)
@@ -123,6 +123,6 @@ module _ (code : Code) (fits : Fits code) where
   at_most place o e = (nested place o e).room
 
   -- GOING BACK to the word after LOOP keeps the open blocks
-  pub going_back : (place l : ℕ) (o : List Open) → open_at code place ≡ there (open_at_lem looping l ∷ o) → open_at code (l + 1) ≡ there (open_at_lem looping l ∷ o)
+  pub going_back : (place l : ℕ) (o : List Open) → open_at code place ≡ there (opened_at looping l ∷ o) → open_at code (l + 1) ≡ there (opened_at looping l ∷ o)
   unfolding EachOpened
-  going_back place l o e = (each_opened place (open_at_lem looping l ∷ o) e).0.next
+  going_back place l o e = (each_opened place (opened_at looping l ∷ o) e).0.next

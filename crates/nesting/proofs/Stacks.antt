@@ -12,7 +12,7 @@ use Rattle.refusals.specs.Table.{Rule, broken}
 use Rattle.blocks.specs.declared.rules.Inside.{Inside}
 use Rattle.blocks.specs.declared.structure.Checked.TheVariants.{Fine, Refused}
 use Rattle.nesting.specs.declared.places.Stack.{Stack}
-use Rattle.blocks.specs.Open.{Part, before, after, looping, Open, open_at_lem, in_loop, part_number, part_number_of, opener_of, one_if_loop, loops, inside_of, innermost}
+use Rattle.blocks.specs.Open.{Part, before, after, looping, Open, opened_at, in_loop, part_number, part_number_of, opener_of, one_if_loop, loops, inside_of, innermost}
 use Rattle.blocks.specs.Scan.{ended}
 use Rattle.nesting.specs.OpenAt.{filled, stack_of}
 use Rattle.blocks.specs.Levels.{around}
@@ -56,7 +56,7 @@ filled_back f x o h =
 
 -- a block is put on
 pub push : (s : Stack) (o : List Open) (k : Inside) (at n m : ℕ) → Holds s o → s.depth < nesting → n ≡ inside_number k → m ≡ one_if_loop (part_of k) s.loops
-    → Holds (record { depth = s.depth + 1; loops = m; parts = set s.parts s.depth n; openers = set s.openers s.depth at }) (open_at_lem (part_of k) at ∷ o)
+    → Holds (record { depth = s.depth + 1; loops = m; parts = set s.parts s.depth n; openers = set s.openers s.depth at }) (opened_at (part_of k) at ∷ o)
 unfolding filled loops
 push s o k at n m h lt e f =
     record {
@@ -81,16 +81,16 @@ no_more Inside.After n m e f = refl
 no_more Inside.Loop n m e f = absurd (f e)
 
 -- the innermost block's part
-read_part : (s : Stack) (k : Part) (p : ℕ) (o : List Open) → Holds s (open_at_lem k p ∷ o) → get_or s.parts (s.depth - 1) 0 ≡ part_number k
+read_part : (s : Stack) (k : Part) (p : ℕ) (o : List Open) → Holds s (opened_at k p ∷ o) → get_or s.parts (s.depth - 1) 0 ≡ part_number k
 read_part s k p o h =
     let d : s.depth - 1 ≡ length o = omega (arith, h.depth_is) in
-    ap (λ (l : List ℕ). get_or l (s.depth - 1) 0) h.parts_is ∙ ap (λ (i : ℕ). get_or (filled part_number_of (open_at_lem k p ∷ o)) i 0) d
-    ∙ filled_top part_number_of (open_at_lem k p) o h.at_most
+    ap (λ (l : List ℕ). get_or l (s.depth - 1) 0) h.parts_is ∙ ap (λ (i : ℕ). get_or (filled part_number_of (opened_at k p ∷ o)) i 0) d
+    ∙ filled_top part_number_of (opened_at k p) o h.at_most
 
 pub none_inside : (s : Stack) (o : List Open) → Holds s o → s.depth ≡ 0 → Inside.Nothing ≡ innermost o
 unfolding innermost
 none_inside s [] h e = refl
-none_inside s (open_at_lem k p ∷ o) h e = absurd (omega (arith, h.depth_is))
+none_inside s (opened_at k p ∷ o) h e = absurd (omega (arith, h.depth_is))
 
 -- what the innermost block is
 inside_of_number : (k : Part) → inside_from (part_number k) ≡ inside_of k
@@ -101,28 +101,28 @@ inside_of_number looping = refl
 pub some_inside : (s : Stack) (o : List Open) → Holds s o → (s.depth ≡ 0 → ⊥) → inside_from (get_or s.parts (s.depth - 1) 0) ≡ innermost o
 unfolding innermost
 some_inside s [] h ne = absurd (ne h.depth_is)
-some_inside s (open_at_lem k p ∷ o) h ne = ap inside_from (read_part s k p o h) ∙ inside_of_number k
+some_inside s (opened_at k p ∷ o) h ne = ap inside_from (read_part s k p o h) ∙ inside_of_number k
 
 -- the innermost block is taken off
 pub pop : (s : Stack) (o : List Open) (m : ℕ) → Holds s o → (s.depth ≡ 0 → ⊥) → m ≡ loops (around o)
     → Holds (record { depth = s.depth - 1; loops = m; parts = set s.parts (s.depth - 1) 0; openers = set s.openers (s.depth - 1) 0 }) (around o)
 unfolding around
 pop s [] m h ne e = absurd (ne h.depth_is)
-pop s (open_at_lem k p ∷ o) m h ne e =
+pop s (opened_at k p ∷ o) m h ne e =
     let d : s.depth - 1 ≡ length o = omega (arith, h.depth_is) in
     let lt : length o < nesting = h.at_most in
     record {
       depth_is = d;
       at_most = omega arith;
       loops_is = e;
-      parts_is = store h.parts_is d refl ∙ filled_back part_number_of (open_at_lem k p) o lt;
-      openers_is = store h.openers_is d refl ∙ filled_back opener_of (open_at_lem k p) o lt;
+      parts_is = store h.parts_is d refl ∙ filled_back part_number_of (opened_at k p) o lt;
+      openers_is = store h.openers_is d refl ∙ filled_back opener_of (opened_at k p) o lt;
     }
 
 pub pop_none : (s : Stack) (o : List Open) → Holds s o → s.depth ≡ 0 → Holds s (around o)
 unfolding around
 pop_none s [] h e = h
-pop_none s (open_at_lem k p ∷ o) h e = absurd (omega (arith, h.depth_is))
+pop_none s (opened_at k p ∷ o) h e = absurd (omega (arith, h.depth_is))
 
 -- a loop is one loop less, an IF is not
 less_one : (k : Part) (m : ℕ) → part_number k ≡ loop_part → one_if_loop k m - 1 ≡ m
@@ -139,12 +139,12 @@ less_none looping m e = absurd (e refl)
 pub pop_loop : (s : Stack) (o : List Open) → Holds s o → (s.depth ≡ 0 → ⊥) → get_or s.parts (s.depth - 1) 0 ≡ loop_part → s.loops - 1 ≡ loops (around o)
 unfolding loops around
 pop_loop s [] h ne e = absurd (ne h.depth_is)
-pop_loop s (open_at_lem k p ∷ o) h ne e = ap (λ (n : ℕ). n - 1) h.loops_is ∙ less_one k (loops o) (sym (read_part s k p o h) ∙ e)
+pop_loop s (opened_at k p ∷ o) h ne e = ap (λ (n : ℕ). n - 1) h.loops_is ∙ less_one k (loops o) (sym (read_part s k p o h) ∙ e)
 
 pub pop_other : (s : Stack) (o : List Open) → Holds s o → (s.depth ≡ 0 → ⊥) → (get_or s.parts (s.depth - 1) 0 ≡ loop_part → ⊥) → s.loops ≡ loops (around o)
 unfolding loops around
 pop_other s [] h ne f = absurd (ne h.depth_is)
-pop_other s (open_at_lem k p ∷ o) h ne f = h.loops_is ∙ less_none k (loops o) (λ e. f (read_part s k p o h ∙ e))
+pop_other s (opened_at k p ∷ o) h ne f = h.loops_is ∙ less_none k (loops o) (λ e. f (read_part s k p o h ∙ e))
 
 pub part_of_inside : (k : Part) → part_of (inside_of k) ≡ k
 part_of_inside before = refl
@@ -155,21 +155,21 @@ part_of_inside looping = refl
 pub turn_none : (s : Stack) (o n : List Open) (k : Inside) → Holds s o → Turned k o n → s.depth ≡ 0 → Holds s n
 unfolding ended
 turn_none s [] [] k h t e = h
-turn_none s [] (open_at_lem j p ∷ n) k h t e =
+turn_none s [] (opened_at j p ∷ n) k h t e =
     let x : Refused (broken Rule.unclosed p) ≡ Fine = t.at_end in
     let z : ◌≡◌ {A = ℕ} 0 1 = cc in
     absurd (omega arith)
-turn_none s (open_at_lem j p ∷ o) n k h t e = absurd (omega (arith, h.depth_is))
+turn_none s (opened_at j p ∷ o) n k h t e = absurd (omega (arith, h.depth_is))
 
 pub turn : (s : Stack) (o n : List Open) (k : Inside) (v : ℕ) → Holds s o → Turned k o n → (s.depth ≡ 0 → ⊥) → v ≡ inside_number k
     → Holds (record { depth = s.depth; loops = s.loops; parts = set s.parts (s.depth - 1) v; openers = s.openers }) n
 unfolding ended innermost around filled
 turn s [] n k v h t ne e = absurd (ne h.depth_is)
-turn s (open_at_lem j p ∷ o) [] k v h t ne e =
+turn s (opened_at j p ∷ o) [] k v h t ne e =
     let x : Fine ≡ Refused (broken Rule.unclosed p) = t.at_end in
     let z : ◌≡◌ {A = ℕ} 0 1 = cc in
     absurd (omega arith)
-turn s (open_at_lem j p ∷ o) (open_at_lem i q ∷ n) k v h t ne e =
+turn s (opened_at j p ∷ o) (opened_at i q ∷ n) k v h t ne e =
     let d : s.depth - 1 ≡ length o = omega (arith, h.depth_is) in
     let r : n ≡ o = t.round in
     let pq : p ≡ q = sym (same_place (broken Rule.unclosed q) (broken Rule.unclosed p) t.at_end) in
@@ -187,14 +187,14 @@ turn s (open_at_lem j p ∷ o) (open_at_lem i q ∷ n) k v h t ne e =
 pub loops_le : (o : List Open) → loops o ≤ length o
 unfolding loops
 loops_le [] = omega arith
-loops_le (open_at_lem before p ∷ o) = omega (arith, loops_le o)
-loops_le (open_at_lem after p ∷ o) = omega (arith, loops_le o)
-loops_le (open_at_lem looping p ∷ o) = omega (arith, loops_le o)
+loops_le (opened_at before p ∷ o) = omega (arith, loops_le o)
+loops_le (opened_at after p ∷ o) = omega (arith, loops_le o)
+loops_le (opened_at looping p ∷ o) = omega (arith, loops_le o)
 
 -- there is a loop exactly if their number is not 0
 pub in_loop_is : (o : List Open) → ltb 0 (loops o) ≡ in_loop o
 unfolding loops in_loop
 in_loop_is [] = refl
-in_loop_is (open_at_lem before p ∷ o) = in_loop_is o
-in_loop_is (open_at_lem after p ∷ o) = in_loop_is o
-in_loop_is (open_at_lem looping p ∷ o) = lt-ltb 0 (loops o + 1) (omega arith)
+in_loop_is (opened_at before p ∷ o) = in_loop_is o
+in_loop_is (opened_at after p ∷ o) = in_loop_is o
+in_loop_is (opened_at looping p ∷ o) = lt-ltb 0 (loops o + 1) (omega arith)

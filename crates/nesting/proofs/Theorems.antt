@@ -18,7 +18,7 @@ use Rattle.refusals.specs.Table.{Rule, broken}
 use Rattle.blocks.specs.declared.item.Item.{Item}
 use Rattle.blocks.specs.declared.structure.Checked.TheVariants.{Fine, Refused}
 use Rattle.blocks.specs.Code.{Code}
-use Rattle.blocks.specs.Open.{Part, before, after, looping, Open, open_at_lem, in_loop}
+use Rattle.blocks.specs.Open.{Part, before, after, looping, Open, opened_at, in_loop}
 use Rattle.blocks.specs.Scan.{over, go, stray, ended, react, carry, run, check_of}
 use Rattle.nesting.specs.OpenAt.{there, open_at}
 use Rattle.blocks.proofs.Refusing.{refused_not_fine}
@@ -32,31 +32,31 @@ use Rattle.nesting.proofs.Openers.{going_back}
 -- ELSE: directly in an IF before its ELSE
 abbrev pub ElseAllowed : Code → ℕ → List Open → Type 0
 ElseAllowed code at [] = ⊥
-ElseAllowed code at (open_at_lem before p ∷ o) = open_at code (at + 1) ≡ there (open_at_lem after p ∷ o)
-ElseAllowed code at (open_at_lem after p ∷ o) = ⊥
-ElseAllowed code at (open_at_lem looping p ∷ o) = ⊥
+ElseAllowed code at (opened_at before p ∷ o) = open_at code (at + 1) ≡ there (opened_at after p ∷ o)
+ElseAllowed code at (opened_at after p ∷ o) = ⊥
+ElseAllowed code at (opened_at looping p ∷ o) = ⊥
 
 -- ENDIF: directly in an IF
 abbrev pub EndifAllowed : Code → ℕ → List Open → Type 0
 EndifAllowed code at [] = ⊥
-EndifAllowed code at (open_at_lem before p ∷ o) = open_at code (at + 1) ≡ there o
-EndifAllowed code at (open_at_lem after p ∷ o) = open_at code (at + 1) ≡ there o
-EndifAllowed code at (open_at_lem looping p ∷ o) = ⊥
+EndifAllowed code at (opened_at before p ∷ o) = open_at code (at + 1) ≡ there o
+EndifAllowed code at (opened_at after p ∷ o) = open_at code (at + 1) ≡ there o
+EndifAllowed code at (opened_at looping p ∷ o) = ⊥
 
 -- ENDLOOP: directly in a loop; one that closes goes on after ENDLOOP, one that does not goes back to the word after its LOOP
 abbrev pub EndloopAllowed : Code → ℕ → List Open → Type 0
 EndloopAllowed code at [] = ⊥
-EndloopAllowed code at (open_at_lem before p ∷ o) = ⊥
-EndloopAllowed code at (open_at_lem after p ∷ o) = ⊥
-EndloopAllowed code at (open_at_lem looping p ∷ o) = (open_at code (at + 1) ≡ there o) × (open_at code (p + 1) ≡ there (open_at_lem looping p ∷ o))
+EndloopAllowed code at (opened_at before p ∷ o) = ⊥
+EndloopAllowed code at (opened_at after p ∷ o) = ⊥
+EndloopAllowed code at (opened_at looping p ∷ o) = (open_at code (at + 1) ≡ there o) × (open_at code (p + 1) ≡ there (opened_at looping p ∷ o))
 
 -- any instruction: a refused one nowhere, IF and LOOP where there is room, BREAK and CONTINUE inside some loop
 abbrev pub Allowed : Code → Item → ℕ → List Open → Type 0
 Allowed code (Item.Plain w) at o = open_at code (at + w) ≡ there o
-Allowed code Item.If at o = (length o < nesting) × (open_at code (at + 1) ≡ there (open_at_lem before at ∷ o))
+Allowed code Item.If at o = (length o < nesting) × (open_at code (at + 1) ≡ there (opened_at before at ∷ o))
 Allowed code Item.Else at o = ElseAllowed code at o
 Allowed code Item.Endif at o = EndifAllowed code at o
-Allowed code Item.Loop at o = (length o < nesting) × (open_at code (at + 1) ≡ there (open_at_lem looping at ∷ o))
+Allowed code Item.Loop at o = (length o < nesting) × (open_at code (at + 1) ≡ there (opened_at looping at ∷ o))
 Allowed code Item.Jump at o = (in_loop o ≡ true) × (open_at code (at + 1) ≡ there o)
 Allowed code Item.Endloop at o = EndloopAllowed code at o
 Allowed code (Item.Bad r) at o = ⊥
@@ -70,21 +70,21 @@ record Onwards (code : Code) (at : ℕ) : Type 0 where
 
 onwards_from : (code : Code) (i : Item) (at : ℕ) (o : List Open) → Ok at code.size i → Allowed code i at o → Onwards code at
 onwards_from code (Item.Plain w) at o ok a = record { place = at + w; blocks = o; later = omega arith; found = a }
-onwards_from code Item.If at o ok a = record { place = at + 1; blocks = open_at_lem before at ∷ o; later = omega arith; found = a.1 }
+onwards_from code Item.If at o ok a = record { place = at + 1; blocks = opened_at before at ∷ o; later = omega arith; found = a.1 }
 onwards_from code Item.Else at [] ok a = absurd a
-onwards_from code Item.Else at (open_at_lem before p ∷ o) ok a = record { place = at + 1; blocks = open_at_lem after p ∷ o; later = omega arith; found = a }
-onwards_from code Item.Else at (open_at_lem after p ∷ o) ok a = absurd a
-onwards_from code Item.Else at (open_at_lem looping p ∷ o) ok a = absurd a
+onwards_from code Item.Else at (opened_at before p ∷ o) ok a = record { place = at + 1; blocks = opened_at after p ∷ o; later = omega arith; found = a }
+onwards_from code Item.Else at (opened_at after p ∷ o) ok a = absurd a
+onwards_from code Item.Else at (opened_at looping p ∷ o) ok a = absurd a
 onwards_from code Item.Endif at [] ok a = absurd a
-onwards_from code Item.Endif at (open_at_lem before p ∷ o) ok a = record { place = at + 1; blocks = o; later = omega arith; found = a }
-onwards_from code Item.Endif at (open_at_lem after p ∷ o) ok a = record { place = at + 1; blocks = o; later = omega arith; found = a }
-onwards_from code Item.Endif at (open_at_lem looping p ∷ o) ok a = absurd a
-onwards_from code Item.Loop at o ok a = record { place = at + 1; blocks = open_at_lem looping at ∷ o; later = omega arith; found = a.1 }
+onwards_from code Item.Endif at (opened_at before p ∷ o) ok a = record { place = at + 1; blocks = o; later = omega arith; found = a }
+onwards_from code Item.Endif at (opened_at after p ∷ o) ok a = record { place = at + 1; blocks = o; later = omega arith; found = a }
+onwards_from code Item.Endif at (opened_at looping p ∷ o) ok a = absurd a
+onwards_from code Item.Loop at o ok a = record { place = at + 1; blocks = opened_at looping at ∷ o; later = omega arith; found = a.1 }
 onwards_from code Item.Jump at o ok a = record { place = at + 1; blocks = o; later = omega arith; found = a.1 }
 onwards_from code Item.Endloop at [] ok a = absurd a
-onwards_from code Item.Endloop at (open_at_lem before p ∷ o) ok a = absurd a
-onwards_from code Item.Endloop at (open_at_lem after p ∷ o) ok a = absurd a
-onwards_from code Item.Endloop at (open_at_lem looping p ∷ o) ok a = record { place = at + 1; blocks = o; later = omega arith; found = a.0 }
+onwards_from code Item.Endloop at (opened_at before p ∷ o) ok a = absurd a
+onwards_from code Item.Endloop at (opened_at after p ∷ o) ok a = absurd a
+onwards_from code Item.Endloop at (opened_at looping p ∷ o) ok a = record { place = at + 1; blocks = o; later = omega arith; found = a.0 }
 onwards_from code (Item.Bad r) at o ok a = absurd a
 
 module _ (code : Code) (fits : Fits code) (checked : check_of code ≡ Fine) where
@@ -103,8 +103,8 @@ module _ (code : Code) (fits : Fits code) (checked : check_of code ≡ Fine) whe
         (sym (run_to code fits at o (over (Refused r)) h (ap (λ (j : Item). react j at o) e ∙ f)) ∙ fine_from at o here)
 
     opener_allowed : (i : Item) (part : Part) (o : List Open) → code.item at ≡ i → open_at code at ≡ there o → (b : Bool) → ltb (length o) nesting ≡ b
-        → react i at o ≡ cond b (go (at + 1) (open_at_lem part at ∷ o)) (over (Refused (broken Rule.depth at))) → (length o < nesting) × (open_at code (at + 1) ≡ there (open_at_lem part at ∷ o))
-    opener_allowed i part o e here true b f = (ltb-true (length o) nesting b, leads i o (at + 1) (open_at_lem part at ∷ o) e here f)
+        → react i at o ≡ cond b (go (at + 1) (opened_at part at ∷ o)) (over (Refused (broken Rule.depth at))) → (length o < nesting) × (open_at code (at + 1) ≡ there (opened_at part at ∷ o))
+    opener_allowed i part o e here true b f = (ltb-true (length o) nesting b, leads i o (at + 1) (opened_at part at ∷ o) e here f)
     opener_allowed i part o e here false b f = refused i o _ e here f
 
     jump_allowed : (o : List Open) → code.item at ≡ Item.Jump → open_at code at ≡ there o → (b : Bool) → in_loop o ≡ b
@@ -117,20 +117,20 @@ module _ (code : Code) (fits : Fits code) (checked : check_of code ≡ Fine) whe
     item_allowed (Item.Plain w) o e here = leads (Item.Plain w) o (at + w) o e here refl
     item_allowed Item.If o e here = opener_allowed Item.If before o e here (ltb (length o) nesting) refl refl
     item_allowed Item.Else [] e here = refused Item.Else [] _ e here refl
-    item_allowed Item.Else (open_at_lem before p ∷ o) e here = leads Item.Else (open_at_lem before p ∷ o) (at + 1) (open_at_lem after p ∷ o) e here refl
-    item_allowed Item.Else (open_at_lem after p ∷ o) e here = refused Item.Else (open_at_lem after p ∷ o) _ e here refl
-    item_allowed Item.Else (open_at_lem looping p ∷ o) e here = refused Item.Else (open_at_lem looping p ∷ o) _ e here refl
+    item_allowed Item.Else (opened_at before p ∷ o) e here = leads Item.Else (opened_at before p ∷ o) (at + 1) (opened_at after p ∷ o) e here refl
+    item_allowed Item.Else (opened_at after p ∷ o) e here = refused Item.Else (opened_at after p ∷ o) _ e here refl
+    item_allowed Item.Else (opened_at looping p ∷ o) e here = refused Item.Else (opened_at looping p ∷ o) _ e here refl
     item_allowed Item.Endif [] e here = refused Item.Endif [] _ e here refl
-    item_allowed Item.Endif (open_at_lem before p ∷ o) e here = leads Item.Endif (open_at_lem before p ∷ o) (at + 1) o e here refl
-    item_allowed Item.Endif (open_at_lem after p ∷ o) e here = leads Item.Endif (open_at_lem after p ∷ o) (at + 1) o e here refl
-    item_allowed Item.Endif (open_at_lem looping p ∷ o) e here = refused Item.Endif (open_at_lem looping p ∷ o) _ e here refl
+    item_allowed Item.Endif (opened_at before p ∷ o) e here = leads Item.Endif (opened_at before p ∷ o) (at + 1) o e here refl
+    item_allowed Item.Endif (opened_at after p ∷ o) e here = leads Item.Endif (opened_at after p ∷ o) (at + 1) o e here refl
+    item_allowed Item.Endif (opened_at looping p ∷ o) e here = refused Item.Endif (opened_at looping p ∷ o) _ e here refl
     item_allowed Item.Loop o e here = opener_allowed Item.Loop looping o e here (ltb (length o) nesting) refl refl
     item_allowed Item.Jump o e here = jump_allowed o e here (in_loop o) refl refl
     item_allowed Item.Endloop [] e here = refused Item.Endloop [] _ e here refl
-    item_allowed Item.Endloop (open_at_lem before p ∷ o) e here = refused Item.Endloop (open_at_lem before p ∷ o) _ e here refl
-    item_allowed Item.Endloop (open_at_lem after p ∷ o) e here = refused Item.Endloop (open_at_lem after p ∷ o) _ e here refl
-    item_allowed Item.Endloop (open_at_lem looping p ∷ o) e here =
-        (leads Item.Endloop (open_at_lem looping p ∷ o) (at + 1) o e here refl, going_back code fits at p o here)
+    item_allowed Item.Endloop (opened_at before p ∷ o) e here = refused Item.Endloop (opened_at before p ∷ o) _ e here refl
+    item_allowed Item.Endloop (opened_at after p ∷ o) e here = refused Item.Endloop (opened_at after p ∷ o) _ e here refl
+    item_allowed Item.Endloop (opened_at looping p ∷ o) e here =
+        (leads Item.Endloop (opened_at looping p ∷ o) (at + 1) o e here refl, going_back code fits at p o here)
     item_allowed (Item.Bad r) o e here = refused (Item.Bad r) o r e here refl
 
   -- EACH INSTRUCTION of checked code that the pass comes by stands where it may, and leads to where the pass has the blocks that it leaves open
@@ -140,7 +140,7 @@ module _ (code : Code) (fits : Fits code) (checked : check_of code ≡ Fine) whe
   none_of_fine : (o : List Open) → ended o ≡ Fine → o ≡ []
   unfolding ended
   none_of_fine [] e = refl
-  none_of_fine (open_at_lem part p ∷ o) e = refused_not_fine (broken Rule.unclosed p) e
+  none_of_fine (opened_at part p ∷ o) e = refused_not_fine (broken Rule.unclosed p) e
 
   ended_at_lem : (at : ℕ) (o : List Open) → at ≡ code.size → open_at code at ≡ there o → open_at code code.size ≡ there []
   ended_at_lem at o e here =

@@ -11,7 +11,7 @@ use Rattle.blocks.specs.declared.item.Item.{Item}
 use Rattle.blocks.specs.declared.item.Reading.{Reading}
 use Rattle.blocks.specs.declared.rules.Inside.{Inside}
 use Rattle.blocks.specs.Item.{item_of}
-use Rattle.blocks.specs.Open.{Part, before, after, looping, Open, open_at_lem, in_loop, innermost}
+use Rattle.blocks.specs.Open.{Part, before, after, looping, Open, opened_at, in_loop, innermost}
 
 -- an instruction of the code, with R registers, and what it is to the blocks: its words stand at the place, and none of its registers is R or more
 abbrev pub Has : List ℕ → Reading → ℕ → Item → Type 0
@@ -41,11 +41,11 @@ Nested code by = Whole code by nesting false 0 (length code)
 pub data Opened (code : List ℕ) (by : Reading) : ℕ → List Open → ℕ → Type 0 where
   outside : {at : ℕ} → Whole code by nesting false 0 at → Opened code by nesting [] at
   in_first : {room : ℕ} {o : List Open} {at : ℕ} (p : ℕ) → Opened code by (suc room) o p → Has code by p Item.If → Whole code by room (in_loop o) (p + 1) at
-      → Opened code by room (open_at_lem before p ∷ o) at
-  in_second : {room : ℕ} {o : List Open} {at : ℕ} (p other : ℕ) → Opened code by room (open_at_lem before p ∷ o) other → Has code by other Item.Else
-      → Whole code by room (in_loop o) (other + 1) at → Opened code by room (open_at_lem after p ∷ o) at
+      → Opened code by room (opened_at before p ∷ o) at
+  in_second : {room : ℕ} {o : List Open} {at : ℕ} (p other : ℕ) → Opened code by room (opened_at before p ∷ o) other → Has code by other Item.Else
+      → Whole code by room (in_loop o) (other + 1) at → Opened code by room (opened_at after p ∷ o) at
   in_body : {room : ℕ} {o : List Open} {at : ℕ} (p : ℕ) → Opened code by (suc room) o p → Has code by p Item.Loop → Whole code by room true (p + 1) at
-      → Opened code by room (open_at_lem looping p ∷ o) at
+      → Opened code by room (opened_at looping p ∷ o) at
 
 -- The first of the rules 4 to 7 that the words at a place break by themselves, whatever blocks are open: one of reading an instruction; or an
 -- instruction stands there, and a register of it is R or more.
@@ -68,4 +68,4 @@ pub data Broken (code : List ℕ) (by : Reading) : Refusal → Type 0 where
   at_words : {room at : ℕ} {r : Refusal} {o : List Open} → Opened code by room o at → at < length code → Alone code by at r → Broken code by r
   at_instruction : {room at : ℕ} {r : Refusal} {o : List Open} {item : Item} → Opened code by room o at → Has code by at item → Misplaced o at item r
       → Broken code by r
-  at_end : {room p : ℕ} {part : Part} {o : List Open} → Opened code by room (open_at_lem part p ∷ o) (length code) → Broken code by (broken Rule.unclosed p)
+  at_end : {room p : ℕ} {part : Part} {o : List Open} → Opened code by room (opened_at part p ∷ o) (length code) → Broken code by (broken Rule.unclosed p)

@@ -2,7 +2,7 @@
 ghost use Rattle.std.specs.Prelude.{◌≡◌, List, [], ◌∷◌, ◌≤◌, ◌<◌};
 ghost use Rattle.lanes.specs.Blocks.{nesting};
 ghost use Rattle.blocks.specs.Code.{code_of};
-ghost use Rattle.blocks.specs.Open.{Open, open_at_lem, innermost};
+ghost use Rattle.blocks.specs.Open.{Open, opened_at, innermost};
 ghost use Rattle.blocks.specs.Scan.{step};
 ghost use Rattle.nesting.specs.OpenAt.{nowhere, open_at, shown};
 ghost use Rattle.blocks.specs.Levels.{around};
@@ -84,7 +84,7 @@ fn inner(s: Stack) -> Inside
 // One block more, opened at a place.
 fn pushed(s: Stack, inside: Inside, at: usize) -> Stack
     requires { (s.depth < nesting) × (s.loops < nesting) }
-    ensures { (o : List Open) → Holds s o → Holds result (open_at_lem (part_of inside) at ∷ o) }
+    ensures { (o : List Open) → Holds s o → Holds result (opened_at (part_of inside) at ∷ o) }
 {
     let d = s.depth;
     let n = number(inside);

@@ -1,6 +1,5 @@
 -- The hot numbers after an instruction are those of the wave gone on, whatever stands in the array.
 use Rattle.wave.proofs.HotNumbers.{onward_hot}
-use Rattle.std.proofs.Common.{rules}
 use Rattle.wave.proofs.going.onward_by.Goals as goal
 
 pub returns : goal.returns

@@ -1,5 +1,5 @@
 -- The active lanes with the predicate, or those without it where the guard is negated.
-use Rattle.std.proofs.Common.{◌∙◌, rules}
+use Rattle.std.proofs.Common.{◌∙◌}
 use Rattle.wave.proofs.guarding.executing.Goals as goal
 
 pub returns-then-g : goal.returns-then-g

@@ -1,5 +1,4 @@
 -- The numbers of a launch are those of its wave, in a state of zeros.
-use Rattle.std.proofs.Common.{rules}
 use Rattle.wave.proofs.launch.launched.Goals as goal
 
 pub returns : goal.returns

@@ -1,9 +1,8 @@
 -- The invariant: the first k numbers as they are and then zeros is the same list as before the loop.
-use Rattle.std.proofs.Common.{◌≡◌, ◌-◌, ◌≤◌, length, refl, ◌∙◌, arith, length-set}
+use Rattle.std.proofs.Common.{refl, ◌∙◌, arith, length-set}
 use native.Mathlib.Nat.{min-le_right}
 use Rattle.lanes.specs.Blocks.{nesting}
-use Rattle.wave.specs.Layout.{path_numbers}
-use Rattle.wave.proofs.Tidying.{wiped, wipe_more, wipe_end, tidy_end}
+use Rattle.wave.proofs.Tidying.{wipe_more, wipe_end, tidy_end}
 use Rattle.wave.proofs.state.tidy.Goals as goal
 
 pub whole-requires : goal.whole-requires

@@ -1,9 +1,7 @@
 -- The invariant: the first k numbers as they are and then zeros is the same list as before the loop.
-use Rattle.std.proofs.Common.{◌≡◌, ◌-◌, ◌≤◌, length, refl, ◌∙◌, arith, length-set}
-use native.Mathlib.Nat.{min-le_right}
-use Rattle.lanes.specs.Blocks.{nesting}
+use Rattle.std.proofs.Common.{◌≡◌, ◌-◌, ◌≤◌, length}
 use Rattle.wave.specs.Layout.{path_numbers}
-use Rattle.wave.proofs.Tidying.{wiped, wipe_more, wipe_end, tidy_end}
+use Rattle.wave.proofs.Tidying.{wiped}
 use Rattle.wave.proofs.state.tidy.Given as goal
 
 abbrev pub invariant-loop-k : goal.invariant-loop-k

@@ -1,5 +1,4 @@
 -- The fields of word 0 are those of `headed`, with the guard's answer put in.
-use borrow.Author.Rules.{rules}
 use Rattle.words.proofs.reading.headed.Goals as goal
 
 pub returns : goal.returns

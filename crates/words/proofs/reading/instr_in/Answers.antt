@@ -1,5 +1,4 @@
 -- The instruction of both words, arm by arm: one for each of the three forms of word 1.
-use borrow.Author.Rules.{rules}
 use Rattle.words.proofs.reading.instr_in.Goals as goal
 
 pub returns-in-Nothing : goal.returns-in-Nothing

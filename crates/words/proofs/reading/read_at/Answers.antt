@@ -1,16 +1,13 @@
 -- Reading at a place: each of the four answers is that of `read_at` by the steps of ReadSteps, from what the tests before it told.
 use mathlib.Core.Path.{◌≡◌, sym, ap, ◌∙◌}
-use mathlib.Core.List.{List}
-use Prim.Native.Nat.{ℕ, ◌<◌}
+use Prim.Native.Nat.{◌<◌}
 use lib.ListN.{length, get_or}
-use Rattle.instructions.specs.declared.instr.Op.{Op}
 use Rattle.opcodes.specs.declared.table.FoundOp.{FoundOp}
 use Rattle.instructions.specs.declared.forms.Limits.{Limits}
 use Rattle.opcodes.specs.Table.{op_of}
 use Rattle.instructions.specs.Forms.{limits_of, size_of}
 use Rattle.words.specs.Layout.{opcode_in, modifier_in}
 use Rattle.words.proofs.ReadSteps.{past, missing, short, whole}
-use borrow.Author.Rules.{rules}
 use Rattle.words.proofs.reading.read_at.Goals as goal
 
 pub returns-then-words-at : goal.returns-then-words-at

@@ -1,5 +1,4 @@
 -- The spare bits of both words are those of `spare_zero`, with the answer for word 1 put in.
-use borrow.Author.Rules.{rules}
 use Rattle.words.proofs.reading.spare_zero.Goals as goal
 
 pub returns : goal.returns

@@ -3,7 +3,6 @@ use Prim.Native.Nat.{◌<◌, ◌≤◌}
 use native.Mathlib.Omega.{arith}
 use Rattle.opcodes.proofs.Rows.{table}
 use Rattle.words.proofs.Digits.{negate_small}
-use borrow.Author.Rules.{rules}
 use Rattle.words.proofs.writing.first_word.Goals as goal
 
 pub overflow_mul-result : goal.overflow_mul-result

@@ -1,5 +1,4 @@
 -- Word 1, arm by arm: one for each of its three forms.
-use borrow.Author.Rules.{rules}
 use Rattle.words.proofs.writing.second_word.Goals as goal
 
 pub returns-in-Registers : goal.returns-in-Registers

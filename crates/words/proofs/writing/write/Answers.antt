@@ -1,18 +1,14 @@
 -- Writing: each of the four answers, with its output, is that of `write_of` by the steps of WriteSteps, from what the tests before it told.
 use mathlib.Core.Path.{◌≡◌, sym, ap, ◌∙◌}
 use mathlib.Core.Bool.{true}
-use mathlib.Core.List.{List}
-use Prim.Native.Nat.{ℕ, ◌≤◌}
+use Prim.Native.Nat.{◌≤◌}
 use native.Mathlib.Omega.{arith}
 use lib.ListN.{get_or, length-set}
-use borrow.Author.Tests.{not-true, not-false}
-use Rattle.instructions.specs.declared.instr.Instr.{Instr}
 use Rattle.instructions.specs.declared.forms.Limits.{Limits}
 use Rattle.instructions.specs.Forms.{limits_of, size_of, valid}
 use Rattle.words.specs.Layout.{rest_of}
 use Rattle.words.proofs.Sizes.{size_positive, size_one}
 use Rattle.words.proofs.WriteSteps.{not_valid, no_room, wrote_one, wrote_two}
-use borrow.Author.Rules.{rules}
 use Rattle.words.proofs.writing.write.Goals as goal
 
 pub returns-then-not-is_valid : goal.returns-then-not-is_valid
