@@ -46,17 +46,17 @@ module _ (l h i : ℕ) where
   -- what is active or set aside was launched, and what has halted
   pub launched : (n : ℕ) (bs : List Block) → FitsAt l h i n bs → n + bit h i ≤ bit l i
   launched n [] f = omega arith
-  launched n (b ∷ bs) f = omega (arith, launched _ bs f.3)
+  launched n (b ∷ bs) f = omega (arith, launched (n + bit b.aside i + bit b.again i) bs f.3)
 
   -- ---- from lane to whole: the lane is in as many of the sets as it was launched
   pub total : (n : ℕ) (bs : List Block) → FitsAt l h i n bs → n + bit h i + count i (asides bs) ≡ bit l i
   total n [] f = omega arith
-  total n (b ∷ bs) f = omega (arith, total _ bs f.3)
+  total n (b ∷ bs) f = omega (arith, total (n + bit b.aside i + bit b.again i) bs f.3)
 
   -- a lane that was not launched is in no entered or left set
   pub unmarked : (n : ℕ) (bs : List Block) → bit l i ≡ 0 → FitsAt l h i n bs → count i (marks bs) ≡ 0
   unmarked n [] z f = refl
-  unmarked n (b ∷ bs) z f = omega (arith, f.0, f.2, unmarked _ bs z f.3)
+  unmarked n (b ∷ bs) z f = omega (arith, f.0, f.2, unmarked (n + bit b.aside i + bit b.again i) bs z f.3)
 
   -- ---- from whole to lane
   from_whole : (inner : List ℕ) (bs : List Block) → Unions inner bs → Quiet bs → count i inner + bit h i + count i (asides bs) ≡ bit l i

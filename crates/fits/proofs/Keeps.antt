@@ -46,13 +46,13 @@ module _ (l h i : ℕ) where
         holds b (omega (arith, bit_le b.entered i)) in
         either (is_loop b) m (g b ∷ bs) (leave t b ∷ to_loop g t bs) (SomeLoop bs) s
         (λ y. (rw (entered, left) (omega arith), (λ x. never (sym (rw part at x) ∙ y)), rw entered f.2, at l h i bs (omega arith) f.3))
-        (λ s'. (rw bit_or_lem (omega (arith, bit_le b.entered i, bit_le t i)), f.1, f.2, to_loop_lem _ _ bs s' (omega arith) f.3))
+        (λ s'. (rw bit_or_lem (omega (arith, bit_le b.entered i, bit_le t i)), f.1, f.2, to_loop_lem (n + bit b.aside i + bit b.again i) (m + bit b.aside i + bit b.again i) bs s' (omega arith) f.3))
 
   -- ---- or to the halted ones, and leave every block
   leaves : (t n m : ℕ) (bs : List Block) → bit t i + m ≡ n → FitsAt l h i n bs → FitsAt l (bit_or h t) i m (map (leave t) bs)
   leaves t n m [] e f = rw bit_or_lem (omega (arith, bit_le l i, bit_le t i))
   leaves t n m (b ∷ bs) e f =
-      (rw bit_or_lem (omega (arith, bit_le b.entered i, bit_le t i)), f.1, f.2, leaves t _ _ bs (omega arith) f.3)
+      (rw bit_or_lem (omega (arith, bit_le b.entered i, bit_le t i)), f.1, f.2, leaves t (n + bit b.aside i + bit b.again i) (m + bit b.aside i + bit b.again i) bs (omega arith) f.3)
 
 -- ---- the rules that look at the innermost block, at the path p of the wave w
 module _ (l i : ℕ) (w : Wave) where

@@ -1,6 +1,5 @@
 -- Each arm is the line of `across_of` for its operation.
 use mathlib.Core.Path.{refl}
-use borrow.Author.Rules.{rules}
 use Rattle.across.specs.Across.{fold_below}
 use Rattle.across.proofs.for_all.Goals as goal
 

@@ -1,11 +1,10 @@
 -- `across::shuffle_results` meets its contract: at turn i the lanes below i have the numbers of the lanes that they name.
 use mathlib.Core.Path.{ap, ◌∙◌}
-use Prim.Native.Nat.{ℕ, ◌-◌}
+use Prim.Native.Nat.{ℕ}
 use native.Mathlib.Omega.{arith}
 use lib.ListN.{get_or}
-use borrow.Author.Rules.{rules}
 use Rattle.lanes.specs.EachLane.{by_lane}
-use Rattle.lanes.proofs.Filling.{Filled, filled_none, filled_more, filled_all}
+use Rattle.lanes.proofs.Filling.{filled_none, filled_more, filled_all}
 use Rattle.across.specs.Across.{shuffle_of}
 use Rattle.across.proofs.shuffle_results.Goals as goal
 

@@ -1,11 +1,7 @@
 -- `across::shuffle_results` meets its contract: at turn i the lanes below i have the numbers of the lanes that they name.
-use mathlib.Core.Path.{ap, ◌∙◌}
-use Prim.Native.Nat.{ℕ, ◌-◌}
-use native.Mathlib.Omega.{arith}
+use Prim.Native.Nat.{◌-◌}
 use lib.ListN.{get_or}
-use borrow.Author.Rules.{rules}
-use Rattle.lanes.specs.EachLane.{by_lane}
-use Rattle.lanes.proofs.Filling.{Filled, filled_none, filled_more, filled_all}
+use Rattle.lanes.proofs.Filling.{Filled}
 use Rattle.across.specs.Across.{shuffle_of}
 use Rattle.across.proofs.shuffle_results.Given as goal
 

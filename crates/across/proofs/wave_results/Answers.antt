@@ -3,7 +3,6 @@ use mathlib.Core.Path.{◌≡◌, sym, ap, ◌∙◌}
 use Prim.Native.Nat.{ℕ, min}
 use native.Mathlib.Omega.{arith}
 use lib.ListN.{get_or}
-use borrow.Author.Rules.{rules}
 use Rattle.lanes.specs.Sets.{widest}
 use Rattle.lanes.specs.EachLane.{by_lane}
 use Rattle.across.specs.Across.{across_of}

@@ -1,6 +1,5 @@
 -- The numbers that are read are the block's.
 use Rattle.body.proofs.Reading.{block_read}
-use borrow.Author.Rules.{rules}
 use Rattle.body.proofs.block_fits.Goals as goal
 
 pub returns : goal.returns

@@ -1,15 +1,7 @@
 -- The invariant: the blocks that are left fit exactly if all do.
-use mathlib.Core.Path.{◌≡◌, refl, sym, ◌∙◌}
-use Prim.Native.Nat.{◌+◌, ◌*◌, ◌≤◌}
-use borrow.Author.Tests.{not-true, not-false}
-use lib.ListN.{length}
+use mathlib.Core.Path.{refl, sym, ◌∙◌}
 use borrow.Author.Rules.{rules}
-use Rattle.ground.specs.Tests.{all_of}
-use Rattle.formats.specs.Places.{each}
 use Rattle.formats.proofs.Each.{all_stop, all_on, all_end}
-use Rattle.body.specs.Body.{set_bytes}
-use Rattle.body.specs.Layout.{block_fits}
-use Rattle.body.specs.Places.{block_at}
 use Rattle.body.proofs.blocks_fit.Goals as goal
 
 pub loop-left-init : goal.loop-left-init

@@ -1,12 +1,9 @@
 -- The invariant: the blocks that are left fit exactly if all do.
-use mathlib.Core.Path.{◌≡◌, refl, sym, ◌∙◌}
+use mathlib.Core.Path.{◌≡◌}
 use Prim.Native.Nat.{◌+◌, ◌*◌, ◌≤◌}
-use borrow.Author.Tests.{not-true, not-false}
 use lib.ListN.{length}
-use borrow.Author.Rules.{rules}
 use Rattle.ground.specs.Tests.{all_of}
 use Rattle.formats.specs.Places.{each}
-use Rattle.formats.proofs.Each.{all_stop, all_on, all_end}
 use Rattle.body.specs.Body.{set_bytes}
 use Rattle.body.specs.Layout.{block_fits}
 use Rattle.body.specs.Places.{block_at}

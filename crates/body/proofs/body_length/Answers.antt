@@ -1,8 +1,6 @@
 -- The tests are those of `starts_body` in another order, of the part from `at` on.
 use native.Mathlib.Omega.{arith}
-use borrow.Author.Tests.{not-true, not-false}
 use Rattle.body.proofs.Answers.{answer_out, BodyRead, fits_room, answer_unfit, answer_blocks, answer_body}
-use borrow.Author.Rules.{rules}
 use Rattle.body.proofs.body_length.Goals as goal
 
 pub returns-then-bytes-at : goal.returns-then-bytes-at

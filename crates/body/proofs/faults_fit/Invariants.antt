@@ -1,13 +1,9 @@
 -- The invariant: the faults from `left` on are tested, and their kinds are spelled.
 use Prim.Native.Nat.{◌≤◌}
-use native.Mathlib.Omega.{arith}
-use borrow.Author.Tests.{not-true, not-false}
-use mathlib.Core.Path.{sym, ◌∙◌}
 use lib.ListN.{length}
-use borrow.Author.Rules.{rules}
 use Rattle.body.specs.Body.{parts_at}
 use Rattle.body.specs.Layout.{most_kinds}
-use Rattle.body.proofs.Spelling.{too_many, Testing, testing_start, testing_stop, testing_next, testing_room, testing_end}
+use Rattle.body.proofs.Spelling.{Testing}
 use Rattle.body.proofs.faults_fit.Given as goal
 
 abbrev pub invariant-loop-left : goal.invariant-loop-left

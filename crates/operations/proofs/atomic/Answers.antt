@@ -1,7 +1,6 @@
 -- `operations::atomic` meets its contract: each arm goes by what the function that it calls ensures, or by its test.
 use mathlib.Core.Path.{refl}
 use borrow.Author.Tests.{lt-ltb, le-ltb}
-use borrow.Author.Rules.{rules}
 use Rattle.operations.proofs.atomic.Goals as goal
 
 pub returns-in-Add : goal.returns-in-Add

@@ -1,7 +1,6 @@
 -- `operations::compare` meets its contract: each arm is a test, or goes by what `less` answers.
 use mathlib.Core.Path.{refl, ap}
 use mathlib.Core.Bool.{not}
-use borrow.Author.Rules.{rules}
 use Rattle.operations.proofs.compare.Goals as goal
 
 pub returns-in-Eq : goal.returns-in-Eq

@@ -1,6 +1,5 @@
 -- `operations::one` meets its contract: each arm goes by what the function that it calls ensures.
 use mathlib.Core.Path.{refl}
-use borrow.Author.Rules.{rules}
 use Rattle.operations.proofs.one.Goals as goal
 
 pub returns-in-Neg : goal.returns-in-Neg

@@ -1,6 +1,5 @@
 -- `operations::two` meets its contract: each arm goes by what the function that it calls ensures.
 use mathlib.Core.Path.{refl}
-use borrow.Author.Rules.{rules}
 use Rattle.operations.proofs.two.Goals as goal
 
 pub returns-in-Add : goal.returns-in-Add

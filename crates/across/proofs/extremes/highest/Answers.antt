@@ -1,11 +1,8 @@
 -- `across::extremes::highest` meets its contract: at turn i it is the highest number of the executing lanes below i.
-use Prim.Native.Nat.{◌-◌}
 use native.Mathlib.Omega.{arith}
-use lib.ListN.{get_or}
-use borrow.Author.Rules.{rules}
 use Rattle.instructions.specs.declared.instr.TwoOp.{TwoOp}
 use Rattle.across.specs.Across.{least}
-use Rattle.across.proofs.Folding.{Folded, folded_none, folded_more, folded_all}
+use Rattle.across.proofs.Folding.{folded_none, folded_more, folded_all}
 use Rattle.across.proofs.extremes.highest.Goals as goal
 
 pub loop-i-init : goal.loop-i-init

@@ -1,11 +1,9 @@
 -- `across::extremes::lowest` meets its contract: at turn i it is the lowest number of the executing lanes below i.
 use Prim.Native.Nat.{◌-◌}
-use native.Mathlib.Omega.{arith}
 use lib.ListN.{get_or}
-use borrow.Author.Rules.{rules}
 use Rattle.instructions.specs.declared.instr.TwoOp.{TwoOp}
 use Rattle.across.specs.Across.{greatest}
-use Rattle.across.proofs.Folding.{Folded, folded_none, folded_more, folded_all}
+use Rattle.across.proofs.Folding.{Folded}
 use Rattle.across.proofs.extremes.lowest.Given as goal
 
 abbrev pub invariant-loop-i : goal.invariant-loop-i

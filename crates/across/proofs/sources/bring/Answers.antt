@@ -1,6 +1,5 @@
 -- `across::sources::bring` meets its contract, by whether the lane executes.
 use mathlib.Core.Path.{refl, sym, ◌∙◌}
-use borrow.Author.Rules.{rules}
 use Rattle.across.proofs.sources.bring.Goals as goal
 
 pub returns-then-has : goal.returns-then-has

@@ -1,6 +1,5 @@
 -- `across::sources::from_lane` meets its contract, by whether there is such a lane.
 use mathlib.Core.Path.{refl}
-use borrow.Author.Rules.{rules}
 use borrow.Author.Tests.{lt-ltb, le-ltb}
 use Rattle.across.proofs.sources.from_lane.Goals as goal
 

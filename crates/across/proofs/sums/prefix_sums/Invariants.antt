@@ -1,12 +1,10 @@
 -- `across::sums::prefix_sums` meets its contract: at turn i the lanes below i have their sums, and that of lane i is beside them.
 use Prim.Native.Nat.{◌-◌}
-use native.Mathlib.Omega.{arith}
 use lib.ListN.{get_or}
-use borrow.Author.Rules.{rules}
-use Rattle.lanes.proofs.Filling.{Filled, filled_none, filled_more, filled_all}
+use Rattle.lanes.proofs.Filling.{Filled}
 use Rattle.instructions.specs.declared.instr.TwoOp.{TwoOp}
 use Rattle.across.specs.Across.{sum_below}
-use Rattle.across.proofs.Folding.{Folded, folded_none, folded_more}
+use Rattle.across.proofs.Folding.{Folded}
 use Rattle.across.proofs.sums.prefix_sums.Given as goal
 
 abbrev pub invariant-loop-i : goal.invariant-loop-i

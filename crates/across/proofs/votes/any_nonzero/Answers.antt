@@ -1,6 +1,5 @@
 -- `across::votes::any_nonzero` meets its contract, by whether the set has a lane.
 use mathlib.Core.Path.{refl, sym, ◌∙◌}
-use borrow.Author.Rules.{rules}
 use borrow.Author.Tests.{ne_eqb}
 use Rattle.across.proofs.votes.any_nonzero.Goals as goal
 

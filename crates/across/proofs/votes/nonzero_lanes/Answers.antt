@@ -1,13 +1,10 @@
 -- `across::votes::nonzero_lanes` meets its contract: at turn i the set has the executing lanes below i whose number isn't 0.
 use mathlib.Core.Path.{ap}
 use mathlib.Core.Bool.{Bool, not, ◌&&◌}
-use Prim.Native.Nat.{◌-◌}
 use native.Mathlib.Omega.{arith}
 use lib.Dec.{eqb}
 use lib.ListN.{get_or}
-use borrow.Author.Rules.{rules}
-use Rattle.lanes.specs.Sets.{has}
-use Rattle.lanes.proofs.Picking.{Marked, marked_none, picked_more, marked_all}
+use Rattle.lanes.proofs.Picking.{marked_none, picked_more, marked_all}
 use Rattle.across.specs.Across.{nonzero}
 use Rattle.across.proofs.votes.nonzero_lanes.Goals as goal
 

@@ -1,7 +1,6 @@
 -- The number stands behind the fault kinds and two sets.
 use mathlib.Core.Path.{◌∙◌}
 use Rattle.body.proofs.Reading.{depth_read}
-use borrow.Author.Rules.{rules}
 use Rattle.body.proofs.fields.depth.Goals as goal
 
 pub returns : goal.returns

@@ -1,7 +1,6 @@
 -- The two numbers stand behind the fault kinds before it.
 use native.Mathlib.Omega.{arith}
 use Rattle.body.proofs.Reading.{fault_read, fault_past}
-use borrow.Author.Rules.{rules}
 use Rattle.body.proofs.fields.fault.Goals as goal
 
 pub returns-then-count-k : goal.returns-then-count-k

@@ -2,7 +2,6 @@
 use mathlib.Core.Path.{sym, ◌∙◌}
 use Rattle.body.specs.Body.{set_bytes}
 use Rattle.body.proofs.Places.{kernel_place_lem}
-use borrow.Author.Rules.{rules}
 use Rattle.body.proofs.fields.kernel.Goals as goal
 
 pub returns : goal.returns
