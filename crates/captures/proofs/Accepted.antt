@@ -4,7 +4,7 @@ use Prim.Native.Nat.{ℕ, zero, suc, ◌+◌, ◌≤◌, ◌<◌, min}
 use mathlib.Core.Bool.{Bool, true, false, ◌||◌}
 use mathlib.Core.List.{List, [], ◌∷◌, ◌++◌, zip_with}
 use native.Mathlib.Omega.{arith}
-use lib.Dec.{ltb, eqb}
+use lib.Dec.{leb, ltb, eqb}
 use lib.ListN.{length, get_or, take, drop}
 use lib.Seq.{get_or-drop}
 use borrow.Author.Tests.{leb-true, le-leb, le-ltb, eqb-true, eq-eqb}
@@ -48,7 +48,7 @@ rooms_known : (v : Verdict) (place : ℕ) (ns rooms : List ℕ) → test_rooms v
 unfolding test_rooms
 rooms_known v place [] rooms e = (e, λ k. omega arith)
 rooms_known v place (n ∷ ns) rooms e =
-    let later = rooms_known _ (place + 4) ns (drop 1 rooms) e in
+    let later = rooms_known (next v (leb n (get_or rooms 0 0)) Rule.Room place) (place + 4) ns (drop 1 rooms) e in
     let here = next_known _ _ _ _ later.0 in
     (here.0, within_more n ns rooms (leb-true _ _ here.1) later.1)
 
@@ -56,7 +56,7 @@ rooms_so : (v : Verdict) (place : ℕ) (ns rooms : List ℕ) → v ≡ Fine → 
 unfolding test_rooms
 rooms_so v place [] rooms e w = e
 rooms_so v place (n ∷ ns) rooms e w =
-    rooms_so _ (place + 4) ns (drop 1 rooms) (next_so v _ Rule.Room place e (le-leb _ _ (w 0))) (within_rest n ns rooms w)
+    rooms_so (next v (leb n (get_or rooms 0 0)) Rule.Room place) (place + 4) ns (drop 1 rooms) (next_so v _ Rule.Room place e (le-leb _ _ (w 0))) (within_rest n ns rooms w)
 
 pub counts_long : (f : List ℕ) → length (counts_at f) ≡ part_count
 unfolding counts_at

@@ -1,43 +1,37 @@
 -- A valid instruction has its whole text in the line, so that putting the line is what `text_in` says.
-use mathlib.Core.Path.{◌≡◌, refl, sym, ◌∙◌}
+use mathlib.Core.Path.{◌≡◌, sym, refl, ◌∙◌}
 use mathlib.Core.Bool.{true}
-use Prim.Native.Nat.{◌<◌, ◌≤◌, ◌^◌}
+use mathlib.Core.List.{List}
+use Prim.Native.Nat.{ℕ, ◌<◌, ◌≤◌, ◌^◌}
 use native.Mathlib.Omega.{arith}
 use lib.ListN.{length}
 use lib.Seq.{length-take-le}
-use borrow.Author.Tests.{not-true, not-false}
 use Rattle.instructions.specs.declared.instr.Instr.{Instr}
 use Rattle.instructions.specs.Forms.{valid}
+use Rattle.numbers.specs.Placed.{Puts}
+use Rattle.texts.specs.Text.{text_of, text_room}
 use Rattle.naming.proofs.Whole.{line_room, line_front, put_text, not_valid}
-use borrow.Author.Rules.{rules}
 use Rattle.naming.proofs.write_text.Goals as goal
 
--- once the line is put
-module _ (z : tie.After-put-line) where
-  abbrev instr-at : Instr
-  instr-at = z.before.before.before.before.before.args.instr
-
-  checked : valid instr-at ≡ true
-  checked = sym z.before.before.before.is-valid.ensures ∙ not-false _ z.before.before.if1.left
-
-  small : instr-at.number < 2 ^ 32
-  small = omega arith
-
-  fits : z.put-line.result ≤ length z.put-line.last.1.0
-  fits =
-      let l : length z.put-line.last.1.0 ≡ 48 = z.put-line.kept.1.0 in
-      omega (arith, line_room instr-at checked small z.put-line.ensures)
+-- the text's length is within the line that it was put in
+fits : (i : Instr) {line after : List ℕ} {r : ℕ} → valid i ≡ true → i.number < 2 ^ 32 → length after ≡ text_room → Puts line 0 (text_of i) r after
+    → r ≤ length after
+fits i ok n l p = let m = line_room i ok n p in rw l m
 
 pub returns-then-not-is_valid : goal.returns-then-not-is_valid
 returns-then-not-is_valid c = not_valid c.args.instr _ (sym c.is_valid.ensures ∙ c.if-not-is_valid.true)
 
 pub slice_bounds-line-end : goal.slice_bounds-line-end
-slice_bounds-line-end c = fits c.before
+slice_bounds-line-end c = fits c.args.instr (sym c.is_valid.ensures ∙ c.if-not-is_valid.false) (omega arith) (omega arith) c.put_line-n.ensures
 
 pub slice_bounds-put_whole-end : goal.slice_bounds-put_whole-end
-slice_bounds-put_whole-end c = sym (length-take-le _ _ (fits c.before.before))
+slice_bounds-put_whole-end c =
+    sym
+    (length-take-le _ _
+    (fits c.args.instr (sym c.is_valid.ensures ∙ c.if-not-is_valid.false) (omega arith) (omega arith) c.put_line-n.ensures))
 
 pub returns : goal.returns
 returns c =
+    let ok = sym c.is_valid.ensures ∙ c.if-not-is_valid.false in
     c.put_whole.ensures
-    ∙ put_text (instr-at z) _ c.args.out.now (checked z) (line_front (instr-at z) (checked z) (small z) refl c.put_line-n.ensures)
+    ∙ put_text c.args.instr _ c.args.out.now ok (line_front c.args.instr ok (omega arith) refl c.put_line-n.ensures)

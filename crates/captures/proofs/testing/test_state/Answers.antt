@@ -15,11 +15,11 @@ overflow_add-depth_at c = omega (arith, c.place_of.ensures.1)
 
 pub overflow_mul-depth : goal.overflow_mul-depth
 overflow_mul-depth c = let k = (let at_small : state_size c.depth_of-depth.result < bound + hot_words = let n = c.counts_of-n in
-    depth_small _ _ c.depth_of-depth.ensures (elem_Fits w32 w32 n.result n.type-inv.0 state_part n.type-inv.1.1 tt).fits in at_small) in omega arith
+    depth_small _ _ c.depth_of-depth.ensures (elem_Fits w32 w32 n.result n.type_inv.0 state_part n.type_inv.1.1 tt).fits in at_small) in omega arith
 
 pub overflow_add-depth : goal.overflow_add-depth
 overflow_add-depth c = let k = (let at_small : state_size c.depth_of-depth.result < bound + hot_words = let n = c.counts_of-n in
-    depth_small _ _ c.depth_of-depth.ensures (elem_Fits w32 w32 n.result n.type-inv.0 state_part n.type-inv.1.1 tt).fits in at_small) in omega arith
+    depth_small _ _ c.depth_of-depth.ensures (elem_Fits w32 w32 n.result n.type_inv.0 state_part n.type_inv.1.1 tt).fits in at_small) in omega arith
 
 pub returns : goal.returns
 returns c =
