@@ -3,7 +3,6 @@ use mathlib.Core.Path.{sym, ◌∙◌}
 use Rattle.dayfile.proofs.Layouts.{page_lawful}
 use Rattle.dayfile.proofs.Surveys.{good_lying}
 use Rattle.dayfile.proofs.Filing.{make_so, make_bad, make_many}
-use borrow.Author.Rules.{rules}
 use Rattle.dayfile.proofs.making.make.Goals as goal
 
 pub make_good-requires : goal.make_good-requires

@@ -1,8 +1,6 @@
 -- The count and the bodies are put, and behind the count the rows of these bodies: that is the file.
-use native.Mathlib.Omega.{arith}
 use Rattle.dayfile.proofs.Layouts.{page_lawful}
 use Rattle.dayfile.proofs.Filing.{made_not, made_lying, made_so}
-use borrow.Author.Rules.{rules}
 use Rattle.dayfile.proofs.making.make_good.Goals as goal
 
 pub returns-then-out-total : goal.returns-then-out-total

@@ -1,12 +1,9 @@
 -- The invariant: the rows of the bodies that are left, put where the loop stands, give the whole table.
-use borrow.Author.Rules.{rules}
-use mathlib.Core.List.{List}
-use Prim.Native.Nat.{ℕ, ◌+◌, ◌-◌, ◌<◌}
+use Prim.Native.Nat.{◌+◌, ◌<◌}
 use native.Mathlib.Omega.{arith}
 use Rattle.numbers.specs.Numbers.{bound}
-use Rattle.dayfile.specs.Day.{page}
 use Rattle.dayfile.proofs.Layouts.{page_lawful}
-use Rattle.dayfile.proofs.Filing.{Filling, filling_start, filling_starts, filling_near, filling_turn, filling_end}
+use Rattle.dayfile.proofs.Filing.{filling_start, filling_starts, filling_near, filling_turn, filling_end}
 use Rattle.dayfile.proofs.making.put_table.Goals as goal
 
 pub loop-k-init : goal.loop-k-init

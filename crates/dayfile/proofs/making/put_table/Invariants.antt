@@ -1,12 +1,8 @@
 -- The invariant: the rows of the bodies that are left, put where the loop stands, give the whole table.
-use borrow.Author.Rules.{rules}
 use mathlib.Core.List.{List}
-use Prim.Native.Nat.{ℕ, ◌+◌, ◌-◌, ◌<◌}
-use native.Mathlib.Omega.{arith}
-use Rattle.numbers.specs.Numbers.{bound}
+use Prim.Native.Nat.{ℕ, ◌-◌}
 use Rattle.dayfile.specs.Day.{page}
-use Rattle.dayfile.proofs.Layouts.{page_lawful}
-use Rattle.dayfile.proofs.Filing.{Filling, filling_start, filling_starts, filling_near, filling_turn, filling_end}
+use Rattle.dayfile.proofs.Filing.{Filling}
 use Rattle.dayfile.proofs.making.put_table.Given as goal
 
 abbrev pub invariant-loop-k : goal.invariant-loop-k

@@ -2,7 +2,6 @@
 use mathlib.Core.Path.{sym, ◌∙◌}
 use Rattle.ground.proofs.Bools.{never}
 use Rattle.body.proofs.Answers.{length_says, refused_says}
-use borrow.Author.Rules.{rules}
 use Rattle.dayfile.proofs.making.size_at.Goals as goal
 
 pub returns-in_default : goal.returns-in_default

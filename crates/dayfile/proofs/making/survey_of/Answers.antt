@@ -1,5 +1,4 @@
 -- The invariant: the survey of what is left, from where the loop stands, is the survey of all.
-use borrow.Author.Rules.{rules}
 use mathlib.Core.Path.{sym, ◌∙◌}
 use Prim.Native.Nat.{◌+◌, ◌-◌}
 use native.Mathlib.Omega.{arith}

@@ -1,12 +1,6 @@
 -- The invariant: the survey of what is left, from where the loop stands, is the survey of all.
-use borrow.Author.Rules.{rules}
-use mathlib.Core.Path.{sym, ◌∙◌}
-use Prim.Native.Nat.{◌+◌, ◌-◌}
-use native.Mathlib.Omega.{arith}
-use Rattle.body.proofs.Answers.{length_says, refused_says}
 use Rattle.dayfile.specs.Day.{page}
-use Rattle.dayfile.proofs.Layouts.{page_lawful}
-use Rattle.dayfile.proofs.Surveys.{Surveying, surveying_start, surveying_end, surveying_many, surveying_bad, surveying_turn}
+use Rattle.dayfile.proofs.Surveys.{Surveying}
 use Rattle.dayfile.proofs.making.survey_of.Given as goal
 
 abbrev pub invariant-loop-at : goal.invariant-loop-at

@@ -1,6 +1,5 @@
 -- The length is put behind the place: `row_put`.
 use Rattle.dayfile.proofs.Filing.{row_put}
-use borrow.Author.Rules.{rules}
 use Rattle.dayfile.proofs.rows.put_row.Goals as goal
 
 pub returns : goal.returns

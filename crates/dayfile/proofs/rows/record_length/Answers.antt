@@ -2,7 +2,6 @@
 use mathlib.Core.Path.{ap, ◌∙◌}
 use Prim.Native.Nat.{ℕ, ◌+◌}
 use Rattle.numbers.specs.Numbers.{number_at}
-use borrow.Author.Rules.{rules}
 use Rattle.dayfile.proofs.rows.record_length.Goals as goal
 
 pub returns : goal.returns

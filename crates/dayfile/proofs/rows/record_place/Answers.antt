@@ -1,7 +1,6 @@
 -- The place is what the row at the table's end of those before it begins with.
 use mathlib.Core.Path.{ap, ◌∙◌}
 use Rattle.numbers.specs.Numbers.{number_at}
-use borrow.Author.Rules.{rules}
 use Rattle.dayfile.proofs.rows.record_place.Goals as goal
 
 pub returns : goal.returns
