@@ -1,5 +1,4 @@
 -- Each arm is the line of the table for its operation.
-use borrow.Author.Rules.{rules}
 use Rattle.fetching.proofs.control_in.Goals as goal
 
 pub returns-in-Control : goal.returns-in-Control

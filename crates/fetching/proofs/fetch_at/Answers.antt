@@ -1,7 +1,6 @@
 -- What was fetched is what the definition says, by the way that the search for the operation ended.
 use mathlib.Core.Path.{sym, ◌∙◌}
 use Rattle.fetching.proofs.Fetches.{fetch_past, fetch_missing, fetch_carried}
-use borrow.Author.Rules.{rules}
 use Rattle.fetching.proofs.fetch_at.Goals as goal
 
 pub returns-then-words-at : goal.returns-then-words-at

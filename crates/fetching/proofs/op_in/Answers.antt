@@ -2,7 +2,6 @@
 use mathlib.Core.Path.{sym, ◌∙◌}
 use Rattle.words.specs.Layout.{modifier_in}
 use Rattle.opcodes.proofs.Parts.{of_registers, of_reaching, of_control}
-use borrow.Author.Rules.{rules}
 use Rattle.fetching.proofs.op_in.Goals as goal
 
 pub returns-then-opcode-eq63 : goal.returns-then-opcode-eq63

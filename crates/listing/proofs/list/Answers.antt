@@ -2,7 +2,7 @@
 use Rattle.std.proofs.Common.{refl, sym}
 use lib.Seq.{length-take-le}
 use Rattle.numbers.proofs.Placing.{puts_same}
-use Rattle.listing.proofs.Texts.{text_long, text_table, text_refused, Counted, firsts_counted, firsts_not}
+use Rattle.listing.proofs.Texts.{text_long, text_table, text_refused, firsts_counted, firsts_not}
 use Rattle.listing.proofs.list.Goals as goal
 
 pub returns-then-file-gt-MOST_BYTES : goal.returns-then-file-gt-MOST_BYTES

@@ -1,12 +1,8 @@
 -- At turn k the first k numbers are the words behind the seven.
 use mathlib.Core.Path.{refl}
-use Prim.Native.Nat.{ℕ, ◌+◌, ◌-◌}
 use native.Mathlib.Omega.{arith}
-use lib.ListN.{get_or}
-use borrow.Author.Rules.{rules}
-use Rattle.ground.proofs.Lists.{Tabled, tabled_none, tabled_more, tabled_all}
-use Rattle.wave.specs.Layout.{path_numbers}
-use Rattle.packing.specs.Words.{hot_words, blocks_in}
+use Rattle.ground.proofs.Lists.{tabled_none, tabled_more, tabled_all}
+use Rattle.packing.specs.Words.{blocks_in}
 use Rattle.packing.proofs.blocks_of.Goals as goal
 
 pub loop-k-init : goal.loop-k-init

@@ -1,12 +1,9 @@
 -- At turn k the first k numbers are the words behind the seven.
-use mathlib.Core.Path.{refl}
 use Prim.Native.Nat.{ℕ, ◌+◌, ◌-◌}
-use native.Mathlib.Omega.{arith}
 use lib.ListN.{get_or}
-use borrow.Author.Rules.{rules}
-use Rattle.ground.proofs.Lists.{Tabled, tabled_none, tabled_more, tabled_all}
+use Rattle.ground.proofs.Lists.{Tabled}
 use Rattle.wave.specs.Layout.{path_numbers}
-use Rattle.packing.specs.Words.{hot_words, blocks_in}
+use Rattle.packing.specs.Words.{hot_words}
 use Rattle.packing.proofs.blocks_of.Given as goal
 
 abbrev pub invariant-loop-k : goal.invariant-loop-k

@@ -1,6 +1,5 @@
 -- Word by word.
 use Rattle.packing.specs.Words.{hot_in}
-use borrow.Author.Rules.{rules}
 use Rattle.packing.proofs.hot_of.Goals as goal
 
 pub returns : goal.returns

@@ -5,7 +5,6 @@ use native.Mathlib.Omega.{arith}
 use mathlib.Core.List.{◌++◌}
 use lib.ListN.{length, get_or, get_or-append}
 use lib.Seq.{get_or-append-add}
-use borrow.Author.Rules.{rules}
 use Rattle.packing.proofs.joined_at.Goals as goal
 
 pub returns-then-k-front : goal.returns-then-k-front

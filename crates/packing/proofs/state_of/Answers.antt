@@ -1,5 +1,4 @@
 -- Part by part.
-use borrow.Author.Rules.{rules}
 use Rattle.packing.specs.Words.{state_in}
 use Rattle.packing.proofs.state_of.Goals as goal
 

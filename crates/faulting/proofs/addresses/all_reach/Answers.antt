@@ -1,11 +1,11 @@
 -- `faulting::addresses::all_reach` meets its contract: at turn k the addresses from k on still decide.
 use mathlib.Core.Path.{◌≡◌, refl, sym, ap, ap₂, ◌∙◌}
 use mathlib.Core.Bool.{Bool, not, ◌&&◌, and_assoc}
-use Prim.Native.Nat.{ℕ, ◌-◌, ◌%◌, ◌<◌, max}
+use Prim.Native.Nat.{ℕ, ◌%◌, ◌<◌, max}
 use native.Mathlib.Omega.{arith}
 use lib.Bits.{bit_or}
 use lib.Dec.{eqb}
-use lib.ListN.{length, get_or, take, drop}
+use lib.ListN.{length, get_or, take}
 use lib.Seq.{length-take-le, get_or-take}
 use borrow.Author.Rules.{rules}
 use Rattle.ground.specs.Tests.{all_of}

@@ -1,16 +1,12 @@
 -- `faulting::addresses::all_reach` meets its contract: at turn k the addresses from k on still decide.
-use mathlib.Core.Path.{◌≡◌, refl, sym, ap, ap₂, ◌∙◌}
-use mathlib.Core.Bool.{Bool, not, ◌&&◌, and_assoc}
-use Prim.Native.Nat.{ℕ, ◌-◌, ◌%◌, ◌<◌, max}
-use native.Mathlib.Omega.{arith}
-use lib.Bits.{bit_or}
+use mathlib.Core.Path.{◌≡◌}
+use mathlib.Core.Bool.{◌&&◌}
+use Prim.Native.Nat.{◌-◌, ◌%◌}
 use lib.Dec.{eqb}
-use lib.ListN.{length, get_or, take, drop}
-use lib.Seq.{length-take-le, get_or-take}
-use borrow.Author.Rules.{rules}
+use lib.ListN.{take, drop}
 use Rattle.ground.specs.Tests.{all_of}
-use Rattle.faulting.specs.Causes.{is_over, is_past, in_reach}
-use Rattle.faulting.proofs.Reaching.{asked_more, asked_all, is_below, reach_more, reach_none, below_told}
+use Rattle.faulting.specs.Causes.{in_reach}
+use Rattle.faulting.proofs.Reaching.{is_below}
 use Rattle.faulting.proofs.addresses.all_reach.Given as goal
 
 abbrev pub invariant-loop-k : goal.invariant-loop-k

@@ -7,10 +7,6 @@ use native.Mathlib.Decide.{dec_lt}
 use native.Mathlib.Omega.{arith}
 use lib.ListN.{length, get_or, set, length-set}
 use lib.Seq.{get_or-set_same, get_or-set_other}
-use borrow.Author.Rules.{rules}
-use Rattle.instructions.specs.declared.instr.Space.{Space}
-use Rattle.faulting.specs.Kinds.{kinds}
-use Rattle.faulting.specs.Causes.{sum_fault, base_of, fault_lanes}
 use Rattle.faulting.proofs.EveryKind.{each_same}
 use Rattle.faulting.proofs.addresses.each_kind.Invariants.{lanes_of}
 use Rattle.faulting.proofs.addresses.each_kind.Goals as goal

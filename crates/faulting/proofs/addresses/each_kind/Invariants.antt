@@ -1,17 +1,11 @@
 -- `faulting::addresses::each_kind` meets its contract: at turn k the kinds up to k have their lanes.
-use mathlib.Core.Path.{◌≡◌, refl, ap, ◌∙◌}
+use mathlib.Core.Path.{◌≡◌}
 use mathlib.Core.List.{List}
-use mathlib.Core.Logic.{dite}
 use Prim.Native.Nat.{ℕ, ◌+◌, ◌-◌, ◌<◌}
-use native.Mathlib.Decide.{dec_lt}
-use native.Mathlib.Omega.{arith}
-use lib.ListN.{length, get_or, set, length-set}
-use lib.Seq.{get_or-set_same, get_or-set_other}
-use borrow.Author.Rules.{rules}
+use lib.ListN.{length, get_or}
 use Rattle.instructions.specs.declared.instr.Space.{Space}
 use Rattle.faulting.specs.Kinds.{kinds}
 use Rattle.faulting.specs.Causes.{sum_fault, base_of, fault_lanes}
-use Rattle.faulting.proofs.EveryKind.{each_same}
 use Rattle.faulting.proofs.addresses.each_kind.Given as goal
 
 -- the lanes of kind k

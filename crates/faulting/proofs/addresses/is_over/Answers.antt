@@ -2,7 +2,6 @@
 use mathlib.Core.Path.{ap, ◌∙◌}
 use Prim.Native.Nat.{ℕ}
 use lib.Dec.{ltb}
-use borrow.Author.Rules.{rules}
 use Rattle.faulting.proofs.Wrapping.{wrapped_over}
 use Rattle.faulting.proofs.addresses.is_over.Goals as goal
 

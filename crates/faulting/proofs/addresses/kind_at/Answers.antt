@@ -1,8 +1,7 @@
 -- `faulting::addresses::kind_at` meets its contract, test by test.
 use mathlib.Core.Path.{◌≡◌, refl, sym, ap, ◌∙◌}
-use mathlib.Core.Bool.{Bool, not, cond}
+use mathlib.Core.Bool.{Bool, cond}
 use Prim.Native.Nat.{ℕ}
-use borrow.Author.Rules.{rules}
 use Rattle.faulting.specs.Kinds.{past_kind}
 use Rattle.faulting.specs.Causes.{is_odd, is_past, is_over, sum_fault, base_of}
 use Rattle.faulting.proofs.Wrapping.{address_tells}

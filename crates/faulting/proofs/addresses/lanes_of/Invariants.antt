@@ -1,15 +1,11 @@
 -- `faulting::addresses::lanes_of` meets its contract: at turn i the set has the lanes below i that have the kind.
-use mathlib.Core.Path.{ap₂}
-use mathlib.Core.Bool.{Bool, ◌&&◌}
-use mathlib.Core.List.{List}
-use Prim.Native.Nat.{ℕ, ◌-◌}
-use native.Mathlib.Omega.{arith}
+use mathlib.Core.Bool.{◌&&◌}
+use Prim.Native.Nat.{◌-◌}
 use lib.Dec.{eqb}
 use lib.ListN.{get_or}
-use borrow.Author.Rules.{rules}
 use Rattle.lanes.specs.Sets.{has}
-use Rattle.lanes.proofs.Picking.{Marked, marked_none, picked_more, marked_all}
-use Rattle.faulting.specs.Causes.{sum_fault, base_of, fault_lanes}
+use Rattle.lanes.proofs.Picking.{Marked}
+use Rattle.faulting.specs.Causes.{sum_fault, base_of}
 use Rattle.faulting.proofs.addresses.lanes_of.Given as goal
 
 abbrev pub invariant-loop-i : goal.invariant-loop-i

@@ -1,7 +1,6 @@
 -- `faulting::divisors::divisor_faults` meets its contract: the test of the divisors tells the faults.
 use mathlib.Core.Path.{◌∙◌}
 use lib.ListN.{get_or}
-use borrow.Author.Rules.{rules}
 use Rattle.faulting.proofs.FaultKinds.{divisor_kinds, narrow_kinds}
 use Rattle.faulting.proofs.divisors.divisor_faults.Goals as goal
 

@@ -1,13 +1,10 @@
 -- `faulting::divisors::zero_lanes` meets its contract: at turn i the set has the lanes below i whose divisor is zero.
-use mathlib.Core.Path.{ap}
-use mathlib.Core.Bool.{Bool, ◌&&◌}
+use mathlib.Core.Bool.{◌&&◌}
 use Prim.Native.Nat.{◌-◌}
-use native.Mathlib.Omega.{arith}
 use lib.Dec.{eqb}
 use lib.ListN.{get_or}
-use borrow.Author.Rules.{rules}
 use Rattle.lanes.specs.Sets.{has}
-use Rattle.lanes.proofs.Picking.{Marked, marked_none, picked_more, marked_all}
+use Rattle.lanes.proofs.Picking.{Marked}
 use Rattle.faulting.proofs.divisors.zero_lanes.Given as goal
 
 abbrev pub invariant-loop-i : goal.invariant-loop-i

@@ -1,7 +1,6 @@
 -- `faulting::faults::lanes_of_kind` meets its contract: the array has the kinds in their order, and no kind has another number.
 use mathlib.Core.Path.{sym}
 use native.Mathlib.Omega.{arith}
-use borrow.Author.Rules.{rules}
 use Rattle.faulting.proofs.EveryKind.{no_low_kind, no_high_kind, lanes_at}
 use Rattle.faulting.proofs.faults.lanes_of_kind.Goals as goal
 

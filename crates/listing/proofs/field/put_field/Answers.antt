@@ -4,7 +4,6 @@ use native.Mathlib.Omega.{arith}
 use Rattle.listing.specs.Decimal.{most_places}
 use Rattle.listing.proofs.Places.{fewest_most}
 use Rattle.listing.proofs.Putting.{field_puts}
-use borrow.Author.Rules.{rules}
 use Rattle.listing.proofs.field.put_field.Goals as goal
 
 pub put_text-q-requires : goal.put_text-q-requires

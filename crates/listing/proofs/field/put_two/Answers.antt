@@ -2,7 +2,6 @@
 use native.Mathlib.Omega.{arith}
 use Rattle.numbers.proofs.Placing.{puts_join}
 use Rattle.listing.proofs.Putting.{field_near}
-use borrow.Author.Rules.{rules}
 use Rattle.listing.proofs.field.put_two.Goals as goal
 
 pub put_field-requires : goal.put_field-requires

@@ -1,12 +1,8 @@
 -- The invariant: the count so far and that of the rest come to the whole.
-use borrow.Author.Rules.{rules}
 use mathlib.Core.Path.{◌≡◌}
-use mathlib.Core.Logic.{⊎_elim}
 use Prim.Native.Nat.{◌+◌, ◌-◌, ◌≤◌}
-use native.Mathlib.Omega.{arith}
 use lib.ListN.{length, drop}
 use Rattle.listing.specs.Text.{distinct}
-use Rattle.listing.proofs.Lines.{distinct_first, distinct_later, distinct_end}
 use Rattle.listing.proofs.table.count_distinct.Given as goal
 
 abbrev pub invariant-loop-k : goal.invariant-loop-k

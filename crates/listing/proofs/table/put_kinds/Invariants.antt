@@ -1,8 +1,6 @@
 -- The invariant: the kinds that are left, put where the loop stands, give all.
-use borrow.Author.Rules.{rules}
 use Prim.Native.Nat.{◌-◌}
-use native.Mathlib.Omega.{arith}
-use Rattle.listing.proofs.Kinding.{kinds_few, KindsLeft, kinding_start, kinding_room, kinding_turn, kinding_end}
+use Rattle.listing.proofs.Kinding.{KindsLeft}
 use Rattle.listing.proofs.table.put_kinds.Given as goal
 
 abbrev pub invariant-loop-k : goal.invariant-loop-k

@@ -1,10 +1,9 @@
 -- The invariant: the lines that are left, put where the loop stands, give all.
-use borrow.Author.Rules.{rules}
-use Prim.Native.Nat.{◌-◌, ◌≤◌}
+use Prim.Native.Nat.{◌≤◌}
 use native.Mathlib.Omega.{arith}
 use lib.ListN.{length}
-use Rattle.dayfile.specs.Day.{most_records, page, bodies_of}
-use Rattle.listing.proofs.Lines.{Cut, listed_few, listed_cut, Lining, lining_start, lining_turn, lining_end}
+use Rattle.dayfile.specs.Day.{most_records}
+use Rattle.listing.proofs.Lines.{Cut, listed_few, listed_cut, lining_start, lining_turn, lining_end}
 use Rattle.listing.proofs.table.put_lines.Goals as goal
 
 pub loop-k-init : goal.loop-k-init

@@ -1,10 +1,8 @@
 -- The invariant: the lines that are left, put where the loop stands, give all.
-use borrow.Author.Rules.{rules}
-use Prim.Native.Nat.{◌-◌, ◌≤◌}
-use native.Mathlib.Omega.{arith}
+use Prim.Native.Nat.{◌-◌}
 use lib.ListN.{length}
-use Rattle.dayfile.specs.Day.{most_records, page, bodies_of}
-use Rattle.listing.proofs.Lines.{Cut, listed_few, listed_cut, Lining, lining_start, lining_turn, lining_end}
+use Rattle.dayfile.specs.Day.{page, bodies_of}
+use Rattle.listing.proofs.Lines.{Lining}
 use Rattle.listing.proofs.table.put_lines.Given as goal
 
 abbrev pub invariant-loop-k : goal.invariant-loop-k

@@ -1,14 +1,7 @@
 -- The invariant: the walk that is left, from where the loop stands, answers for all.
-use borrow.Author.Rules.{rules}
-use mathlib.Core.Path.{◌≡◌, sym, ◌∙◌}
-use mathlib.Core.Bool.{true}
-use Prim.Native.Nat.{◌+◌, ◌-◌}
-use native.Mathlib.Omega.{arith}
-use lib.ListN.{drop}
-use Rattle.body.proofs.Answers.{length_says, refused_says}
+use Prim.Native.Nat.{◌-◌}
 use Rattle.dayfile.specs.Day.{page}
-use Rattle.dayfile.proofs.Layouts.{page_lawful}
-use Rattle.records.proofs.Walks.{Walking, walking_start, walking_end, walking_elsewhere, walking_refused, walking_unequal, walking_turn}
+use Rattle.records.proofs.Walks.{Walking}
 use Rattle.records.proofs.accepting.holds.Given as goal
 
 abbrev pub invariant-loop-k : goal.invariant-loop-k

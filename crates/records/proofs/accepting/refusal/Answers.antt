@@ -10,7 +10,6 @@ use Rattle.dayfile.proofs.Layouts.{page_lawful}
 use Rattle.records.specs.Read.{refusal_of}
 use Rattle.records.specs.Steps.{walk}
 use Rattle.records.proofs.Records.{count_is, refused_short, refused_many, refused_table, refused_walk}
-use borrow.Author.Rules.{rules}
 use Rattle.records.proofs.accepting.refusal.Goals as goal
 
 pub returns-then-file-lt-COUNT_BYTES : goal.returns-then-file-lt-COUNT_BYTES

@@ -1,11 +1,7 @@
 -- The invariant: the first equal record is not among those passed, so it is the first among the rest.
-use borrow.Author.Rules.{rules}
-use mathlib.Core.Path.{sym, ◌∙◌}
 use Prim.Native.Nat.{◌-◌}
-use native.Mathlib.Omega.{arith}
 use Rattle.dayfile.specs.Day.{page, bodies_of}
-use Rattle.dayfile.proofs.Layouts.{page_lawful}
-use Rattle.records.proofs.Records.{Stands, file_room, record_here, compared, Seeking, seeking_start, seeking_end, seeking_here, seeking_turn}
+use Rattle.records.proofs.Records.{Seeking}
 use Rattle.records.proofs.reading.first_same.Given as goal
 
 abbrev pub invariant-loop-k : goal.invariant-loop-k

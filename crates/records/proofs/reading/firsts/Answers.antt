@@ -3,7 +3,6 @@ use mathlib.Core.Path.{◌≡◌, sym, ◌∙◌}
 use Rattle.dayfile.specs.Day.{page}
 use Rattle.records.specs.Read.{refusal_of}
 use Rattle.records.proofs.Records.{count_is, firsts_refused, firsts_short, firsts_so}
-use borrow.Author.Rules.{rules}
 use Rattle.records.proofs.reading.firsts.Goals as goal
 
 pub returns-then-refused-ne0 : goal.returns-then-refused-ne0

@@ -1,15 +1,11 @@
 -- The invariant: the records that are left, put where the loop stands, give the whole list.
-use borrow.Author.Rules.{rules}
-use mathlib.Core.Path.{◌≡◌, refl, ◌∙◌}
-use Prim.Native.Nat.{◌-◌, ◌≤◌}
+use mathlib.Core.Path.{refl, ◌∙◌}
 use native.Mathlib.Omega.{arith}
 use mathlib.Core.List.{[]}
-use lib.ListN.{length, get_or, drop, length-set}
-use Rattle.numbers.specs.Placed.{placed}
+use lib.ListN.{get_or, length-set}
 use Rattle.dayfile.specs.Day.{page, bodies_of}
 use Rattle.dayfile.proofs.Layouts.{page_lawful}
 use Rattle.dayfile.proofs.Lists.{count_bodies}
-use Rattle.records.specs.Read.{firsts_of}
 use Rattle.records.proofs.Records.{file_room, first_small, firsts_turn, firsts_end}
 use Rattle.records.proofs.reading.put_firsts.Goals as goal
 

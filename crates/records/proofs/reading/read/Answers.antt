@@ -4,7 +4,6 @@ use native.Mathlib.Omega.{arith}
 use Rattle.dayfile.specs.Day.{page}
 use Rattle.records.specs.Read.{refusal_of}
 use Rattle.records.proofs.Records.{count_is, read_refused, read_zero, read_past, read_so}
-use borrow.Author.Rules.{rules}
 use Rattle.records.proofs.reading.read.Goals as goal
 
 pub returns-then-refused-ne0 : goal.returns-then-refused-ne0

@@ -5,7 +5,6 @@ use mathlib.Core.List.{List}
 use native.Mathlib.Omega.{arith}
 use lib.ListN.{take, drop}
 use Rattle.ground.specs.Tests.{same_list}
-use borrow.Author.Rules.{rules}
 use Rattle.records.proofs.reading.same_part.Goals as goal
 
 -- n bytes from a on

@@ -1,6 +1,5 @@
 -- The search marks the blocks inside the loop, and one store sets the lanes aside in it.
 use Rattle.control.proofs.Ruling.{set_aside}
-use Rattle.std.proofs.Common.{rules}
 use Rattle.control.proofs.rules.aside.aside_rule.Goals as goal
 
 pub returns : goal.returns

@@ -1,5 +1,5 @@
 -- BREAK sets lanes aside as broken.
-use Rattle.std.proofs.Common.{refl, rules}
+use Rattle.std.proofs.Common.{refl}
 use Rattle.control.specs.Rules.{broken}
 use Rattle.control.proofs.rules.aside.break_rule.Goals as goal
 

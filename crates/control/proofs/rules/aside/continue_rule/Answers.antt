@@ -1,5 +1,5 @@
 -- CONTINUE sets lanes aside as continued.
-use Rattle.std.proofs.Common.{refl, rules}
+use Rattle.std.proofs.Common.{refl}
 use Rattle.control.specs.Rules.{continued}
 use Rattle.control.proofs.rules.aside.continue_rule.Goals as goal
 

@@ -1,5 +1,5 @@
 -- A store within the array; past it a store changes nothing.
-use Rattle.std.proofs.Common.{sym, arith, rules}
+use Rattle.std.proofs.Common.{sym, arith}
 use lib.Seq.{set_out}
 use Rattle.control.proofs.rules.aside.join_number.Goals as goal
 

@@ -1,5 +1,5 @@
 -- BARRIER: either the wave is as before and the active lanes are answered, or it goes one word on.
-use Rattle.std.proofs.Common.{refl, rules}
+use Rattle.std.proofs.Common.{refl}
 use Rattle.control.proofs.Ruling.{barrier_stops, barrier_goes}
 use Rattle.control.proofs.rules.barrier.barrier_rule.Goals as goal
 

@@ -1,5 +1,5 @@
 -- ELSE: two stores make the innermost block its second half, with the active lanes set aside.
-use Rattle.std.proofs.Common.{refl, rules}
+use Rattle.std.proofs.Common.{refl}
 use Rattle.control.specs.Rules.{else_rule}
 use Rattle.control.proofs.Ruling.{Begun, none_open, turned_one}
 use Rattle.control.proofs.rules.closing.else_rule.Goals as goal

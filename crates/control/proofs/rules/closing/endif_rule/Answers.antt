@@ -1,5 +1,5 @@
 -- ENDIF: the numbers are those of the wave without its innermost block, whose waiting lanes join the active ones.
-use Rattle.std.proofs.Common.{refl, rules}
+use Rattle.std.proofs.Common.{refl}
 use Rattle.control.specs.Rules.{endif_rule}
 use Rattle.control.proofs.Ruling.{Begun, none_open, closed_one}
 use Rattle.control.proofs.rules.closing.endif_rule.Goals as goal

@@ -1,5 +1,5 @@
 -- ENDLOOP: either the loop closes, and the array stays as it is, or it goes round, and one store forgets its continued lanes.
-use Rattle.std.proofs.Common.{refl, rules}
+use Rattle.std.proofs.Common.{refl}
 use Rattle.control.specs.Rules.{endloop_rule}
 use Rattle.control.proofs.Ruling.{Begun, none_open, done_one, round_one}
 use Rattle.control.proofs.rules.closing.endloop_rule.Goals as goal

@@ -1,6 +1,5 @@
 -- NOP goes one word on and leaves the array as it was.
 use Rattle.control.proofs.Ruling.{onward_does}
-use Rattle.std.proofs.Common.{rules}
 use Rattle.control.proofs.rules.going.onward.Goals as goal
 
 pub returns : goal.returns

@@ -1,11 +1,10 @@
 -- HALT: the walk marks the lanes as left in every open block. The invariant: what is left to walk gives the same as the whole walk.
-use Rattle.std.proofs.Common.{◌≡◌, ◌≤◌, map, length, sym, refl, ◌∙◌, arith, length-set}
+use Rattle.std.proofs.Common.{map, sym, refl, ◌∙◌, arith, length-set}
 use native.Mathlib.Nat.{min-le_right}
 use Rattle.lanes.specs.Blocks.{nesting}
-use Rattle.wave.specs.Layout.{path_numbers}
 use Rattle.control.specs.Rules.{leave}
 use Rattle.control.proofs.Ruling.{halted_all}
-use Rattle.control.proofs.Walks.{walked, walk_leave, walked_none}
+use Rattle.control.proofs.Walks.{walk_leave, walked_none}
 use Rattle.control.proofs.rules.halting.halt_rule.Goals as goal
 
 pub whole-requires : goal.whole-requires

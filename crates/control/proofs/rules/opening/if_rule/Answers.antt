@@ -1,9 +1,7 @@
 -- IF: six stores put one block more above the open ones, where there is room.
 use Rattle.lanes.specs.Blocks.{before_else}
-use Rattle.lanes.specs.declared.said.Block.{Block}
 use Rattle.control.specs.Rules.{if_rule, opening}
 use Rattle.control.proofs.Ruling.{Begun, full, opened_one}
-use Rattle.std.proofs.Common.{rules}
 use Rattle.control.proofs.rules.opening.if_rule.Goals as goal
 
 pub returns-then-d-eq-NESTING : goal.returns-then-d-eq-NESTING

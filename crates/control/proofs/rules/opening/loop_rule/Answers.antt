@@ -1,7 +1,6 @@
 -- LOOP: six stores put one block more above the open ones, where there is room.
-use Rattle.std.proofs.Common.{refl, rules}
+use Rattle.std.proofs.Common.{refl}
 use Rattle.lanes.specs.Blocks.{loop_part}
-use Rattle.lanes.specs.declared.said.Block.{Block}
 use Rattle.control.specs.Rules.{loop_rule, opening}
 use Rattle.control.proofs.Ruling.{Begun, full, opened_one}
 use Rattle.control.proofs.rules.opening.loop_rule.Goals as goal
