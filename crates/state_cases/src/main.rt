@@ -7,9 +7,12 @@ ghost use Rattle.std.specs.Prelude.{◌≤◌, ◌+◌};
 
 use blocks::item::Reading;
 use fits::fits;
-use libc::{STDIN_FILENO, STDOUT_FILENO};
 use refusals::STATE;
 use wave::state::{Hot, PATH_NUMBERS};
+
+const STDIN_FILENO: i32 = 0;
+
+const STDOUT_FILENO: i32 = 1;
 
 // The numbers of the longest case, and so many that a state's blocks can be read past them.
 const LONGEST: usize = 320;
