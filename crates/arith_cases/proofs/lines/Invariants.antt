@@ -1,6 +1,5 @@
 -- `arith_cases::lines` is safe and ends: it counts to 16.
 use Prim.Native.Nat.{◌-◌, ◌≤◌}
-use borrow.Author.Rules.{rules}
 use Rattle.arith_cases.proofs.lines.Given as goal
 
 abbrev pub invariant-loop-i : goal.invariant-loop-i

@@ -19,7 +19,7 @@ put_kind-at-requires c =
 pub loop-kind-preserved : goal.loop-kind-preserved
 loop-kind-preserved c =
     let h = c.loop-kind in (
-      c.put_kind-at.auto.lanes ∙ h.invariant.0,
+      c.put_kind-at.auto.out ∙ h.invariant.0,
       kept_next _ _ _ _ _ _ h.kind h.invariant.1 (omega (arith, c.loop-kind-test.true)) _ c.lanes_of_kind.ensures
           c.put_kind-at.ensures.0 c.put_kind-at.ensures.1,
     )
