@@ -3,9 +3,9 @@
 #![tactic(auto)]
 
 mod days;
+mod encodings;
 mod format;
-mod operations;
-mod runs;
+mod replays;
 mod states;
 
 ghost use Rattle.std.specs.Prelude.{◌≡◌, length};
@@ -19,14 +19,14 @@ use numbers::get;
 // The answer to a case of this kind, at the start of `out`, and how many bytes it has; none for a kind that there isn't.
 fn answer(kind: u32, case: &[u8], out: &mut [u8]) -> usize {
     match kind {
-        1 => operations::answer_read(case, out),
-        2 => operations::answer_write(case, out),
-        3 => runs::answer_run(case, out),
-        4 => runs::answer_key(case, out),
+        1 => encodings::answer_read(case, out),
+        2 => encodings::answer_write(case, out),
+        3 => replays::answer_run(case, out),
+        4 => replays::answer_key(case, out),
         5 => days::answer_make(case, out),
         6 => days::answer_read(case, out),
         7 => days::answer_list(case, out),
-        8 => operations::answer_text(case, out),
+        8 => encodings::answer_text(case, out),
         _ => 0,
     }
 }

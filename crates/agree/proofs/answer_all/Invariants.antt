@@ -1,5 +1,5 @@
 -- The turns that are left fall, and both rooms keep their lengths.
-use Rattle.std.proofs.Common.{◌≡◌, length, rules}
+use Rattle.std.proofs.Common.{◌≡◌, length}
 use Rattle.agree.proofs.answer_all.Given as goal
 
 abbrev pub invariant-loop-turns : goal.invariant-loop-turns

@@ -1,5 +1,5 @@
 -- The loop stays in the room, whose length stays.
-use Rattle.std.proofs.Common.{◌≡◌, ◌-◌, ◌≤◌, length, rules}
+use Rattle.std.proofs.Common.{◌≡◌, ◌-◌, ◌≤◌, length}
 use Rattle.agree.proofs.format.mark.Given as goal
 
 abbrev pub invariant-loop-i : goal.invariant-loop-i
