@@ -1,12 +1,10 @@
 -- The invariant: the kinds below `kind` are counted, and those from it on are left.
 use mathlib.Core.Path.{ap, ◌∙◌}
 use mathlib.Core.Bool.{cond}
-use Prim.Native.Nat.{ℕ, suc, ◌-◌}
+use Prim.Native.Nat.{ℕ}
 use native.Mathlib.Omega.{arith}
 use lib.Dec.{eqb}
-use borrow.Author.Rules.{rules}
-use Rattle.faulting.specs.Kinds.{kinds}
-use Rattle.key.proofs.Kinding.{Counting, count_none, count_next, count_all}
+use Rattle.key.proofs.Kinding.{count_none, count_next, count_all}
 use Rattle.key.proofs.putting.count_of.Goals as goal
 
 pub loop-kind-init : goal.loop-kind-init

@@ -1,12 +1,7 @@
 -- The invariant: the kinds below `kind` are counted, and those from it on are left.
-use mathlib.Core.Path.{ap, ◌∙◌}
-use mathlib.Core.Bool.{cond}
-use Prim.Native.Nat.{ℕ, suc, ◌-◌}
-use native.Mathlib.Omega.{arith}
-use lib.Dec.{eqb}
-use borrow.Author.Rules.{rules}
+use Prim.Native.Nat.{suc, ◌-◌}
 use Rattle.faulting.specs.Kinds.{kinds}
-use Rattle.key.proofs.Kinding.{Counting, count_none, count_next, count_all}
+use Rattle.key.proofs.Kinding.{Counting}
 use Rattle.key.proofs.putting.count_of.Given as goal
 
 abbrev pub invariant-loop-kind : goal.invariant-loop-kind

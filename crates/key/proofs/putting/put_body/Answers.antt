@@ -2,7 +2,6 @@
 use native.Mathlib.Omega.{arith}
 use Rattle.faulting.proofs.EveryKind.{few_listed}
 use Rattle.key.proofs.Bodies.{body_put}
-use borrow.Author.Rules.{rules}
 use Rattle.key.proofs.putting.put_body.Goals as goal
 
 pub put_state-requires : goal.put_state-requires

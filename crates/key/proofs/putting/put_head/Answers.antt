@@ -3,7 +3,6 @@ use mathlib.Core.Path.{refl}
 use native.Mathlib.Omega.{arith}
 use Rattle.formats.proofs.Putting.{put_number, put_counted}
 use Rattle.faulting.proofs.EveryKind.{few_listed}
-use borrow.Author.Rules.{rules}
 use Rattle.key.proofs.putting.put_head.Goals as goal
 
 pub returns : goal.returns

@@ -1,7 +1,6 @@
 -- No lanes are no kind; otherwise the lanes stand behind the kind.
 use native.Mathlib.Omega.{arith}
 use Rattle.key.proofs.Kinding.{no_kind, some_kind}
-use borrow.Author.Rules.{rules}
 use Rattle.key.proofs.putting.put_kind.Goals as goal
 
 pub returns-then-lanes-eq0 : goal.returns-then-lanes-eq0

@@ -1,11 +1,7 @@
 -- The invariant: the kinds below `kind` stand one behind another, and the loop stands behind them.
-use mathlib.Core.Path.{◌≡◌, refl, ◌∙◌}
-use Prim.Native.Nat.{suc, ◌-◌}
+use mathlib.Core.Path.{refl, ◌∙◌}
 use native.Mathlib.Omega.{arith}
-use lib.ListN.{length}
-use borrow.Author.Rules.{rules}
-use Rattle.faulting.specs.Kinds.{kinds}
-use Rattle.key.proofs.Kinding.{Kept, kept_none, kept_next, kept_all}
+use Rattle.key.proofs.Kinding.{kept_none, kept_next, kept_all}
 use Rattle.key.proofs.putting.put_kinds.Goals as goal
 
 pub loop-kind-init : goal.loop-kind-init

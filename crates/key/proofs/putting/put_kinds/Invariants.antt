@@ -1,11 +1,9 @@
 -- The invariant: the kinds below `kind` stand one behind another, and the loop stands behind them.
-use mathlib.Core.Path.{◌≡◌, refl, ◌∙◌}
+use mathlib.Core.Path.{◌≡◌}
 use Prim.Native.Nat.{suc, ◌-◌}
-use native.Mathlib.Omega.{arith}
 use lib.ListN.{length}
-use borrow.Author.Rules.{rules}
 use Rattle.faulting.specs.Kinds.{kinds}
-use Rattle.key.proofs.Kinding.{Kept, kept_none, kept_next, kept_all}
+use Rattle.key.proofs.Kinding.{Kept}
 use Rattle.key.proofs.putting.put_kinds.Given as goal
 
 abbrev pub invariant-loop-kind : goal.invariant-loop-kind

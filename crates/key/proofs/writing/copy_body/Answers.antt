@@ -3,7 +3,6 @@ use mathlib.Core.Path.{◌≡◌, sym, ◌∙◌}
 use Rattle.body.specs.declared.BodyAnswer.TheVariants.{Length}
 use Rattle.body.specs.Layout.{body_answer}
 use Rattle.key.proofs.Bodies.{copy_none, copy_short, copy_long, copy_so}
-use borrow.Author.Rules.{rules}
 use Rattle.key.proofs.writing.copy_body.Goals as goal
 
 pub returns-in_default : goal.returns-in_default

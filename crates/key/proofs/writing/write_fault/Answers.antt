@@ -2,7 +2,6 @@
 use mathlib.Core.Path.{◌∙◌}
 use native.Mathlib.Omega.{arith}
 use Rattle.key.proofs.Bodies.{deep_key, body_room, copy_put}
-use borrow.Author.Rules.{rules}
 use Rattle.key.proofs.writing.write_fault.Goals as goal
 
 pub returns-then-state-gt-NESTING : goal.returns-then-state-gt-NESTING

@@ -1,7 +1,6 @@
 -- By the outcome.
 use mathlib.Core.Path.{◌∙◌}
 use Rattle.key.proofs.Bodies.{key_fault, key_ended, key_budget, key_refused}
-use borrow.Author.Rules.{rules}
 use Rattle.key.proofs.writing.write_key.Goals as goal
 
 pub returns-in-Fault : goal.returns-in-Fault
