@@ -20,7 +20,7 @@ use Rattle.stepping.specs.declared.answers.Replayed.{Replayed}
 use Rattle.key.specs.declared.answer.KeyAnswer.{KeyAnswer}
 use Rattle.key.specs.declared.answer.KeyAnswer.TheVariants.{Wrote, Refused}
 use Rattle.key.specs.Key.{parts_of, body_key, outcome_key, key_of}
-use Rattle.key.specs.Refusals.{KeyBreaks, no_fault_lem, no_body, no_room}
+use Rattle.key.specs.Refusals.{KeyBreaks, not_faulted, no_body, no_room}
 
 module _ (kernel : ℕ) (r : Replayed) (out : List ℕ) where
   abbrev parts : Faults → Parts
@@ -55,11 +55,11 @@ module _ (kernel : ℕ) (r : Replayed) (out : List ℕ) where
       body_tested x f h (fits_layout (parts f)) (leb (length (bytes_of_body (parts f))) (length out)) refl refl
       (sym (body_answer_lem (parts f) (fits_layout (parts f)) (leb (length (bytes_of_body (parts f))) (length out)) refl refl) ∙ e)
   tested x Outcome.Ended h e =
-      broken_as (broken Rule.not_of_layout 0) x (no_fault_lem (λ f. unlike Outcome.Ended f h (λ z. (let y : ◌≡◌ {A = ℕ} 0 1 = cc in omega arith)))) e
+      broken_as (broken Rule.not_of_layout 0) x (not_faulted (λ f. unlike Outcome.Ended f h (λ z. (let y : ◌≡◌ {A = ℕ} 0 1 = cc in omega arith)))) e
   tested x Outcome.OutOfBudget h e =
-      broken_as (broken Rule.not_of_layout 0) x (no_fault_lem (λ f. unlike Outcome.OutOfBudget f h (λ z. (let y : ◌≡◌ {A = ℕ} 0 1 = cc in omega arith)))) e
+      broken_as (broken Rule.not_of_layout 0) x (not_faulted (λ f. unlike Outcome.OutOfBudget f h (λ z. (let y : ◌≡◌ {A = ℕ} 0 1 = cc in omega arith)))) e
   tested x (Outcome.Refused q) h e =
-      broken_as (broken Rule.not_of_layout 0) x (no_fault_lem (λ f. unlike (Outcome.Refused q) f h (λ z. (let y : ◌≡◌ {A = ℕ} 0 1 = cc in omega arith)))) e
+      broken_as (broken Rule.not_of_layout 0) x (not_faulted (λ f. unlike (Outcome.Refused q) f h (λ z. (let y : ◌≡◌ {A = ℕ} 0 1 = cc in omega arith)))) e
 
   not_keyed : (o : Outcome) → ((f : Faults) → o ≡ Outcome.Fault f → ⊥) → (outcome_key kernel o r.state out).answer ≡ Refused (broken Rule.not_of_layout 0)
   unfolding outcome_key
@@ -74,7 +74,7 @@ module _ (kernel : ℕ) (r : Replayed) (out : List ℕ) where
 
   broken_is : (x : Refusal) → KeyBreaks kernel r out x → (key_of kernel r out).answer ≡ Refused x
   unfolding key_of
-  broken_is x (no_fault_lem g) = not_keyed r.outcome g
+  broken_is x (not_faulted g) = not_keyed r.outcome g
   broken_is x (no_body f o g) =
       of_fault f o ∙ body_answer_lem (parts f) false _ (false_of (fits_layout (parts f)) g) refl
   broken_is x (no_room f o a l) = of_fault f o ∙ body_answer_lem (parts f) true false a (lt-leb _ _ l)

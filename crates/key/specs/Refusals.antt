@@ -11,7 +11,7 @@ use Rattle.key.specs.Key.{parts_of}
 
 pub data KeyBreaks (kernel : ℕ) (r : Replayed) (out : List ℕ) : Refusal → Type 0 where
   -- the outcome is no fault
-  no_fault_lem : ((f : Faults) → r.outcome ≡ Outcome.Fault f → ⊥) → KeyBreaks kernel r out (broken Rule.not_of_layout 0)
+  not_faulted : ((f : Faults) → r.outcome ≡ Outcome.Fault f → ⊥) → KeyBreaks kernel r out (broken Rule.not_of_layout 0)
   -- or gives no body of the layout
   no_body : (f : Faults) → r.outcome ≡ Outcome.Fault f → (fits_layout (parts_of kernel f r.state) ≡ true → ⊥)
       → KeyBreaks kernel r out (broken Rule.not_of_layout 0)

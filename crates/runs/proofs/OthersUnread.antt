@@ -1,11 +1,10 @@
 -- AN EXECUTING LANE'S RESULT, of any instruction, rests on the registers of executing lanes alone: whatever the others hold, it is the same.
-use mathlib.Core.Path.{◌≡◌, refl, ap, ◌∙◌}
+use mathlib.Core.Path.{◌≡◌, refl, ap}
 use mathlib.Core.Bool.{Bool, true, false, cond}
 use mathlib.Core.List.{List}
-use Prim.Native.Nat.{ℕ, ◌≤◌, ◌<◌}
+use Prim.Native.Nat.{ℕ, ◌<◌}
 use native.Mathlib.Omega.{arith}
 use lib.ListN.{get_or, set}
-use Rattle.ground.specs.Lists.{in_order}
 use Rattle.ground.proofs.Lists.{in_order_same}
 use Rattle.lanes.specs.Sets.{has}
 use Rattle.instructions.specs.declared.instr.Op.{Op}
@@ -14,7 +13,7 @@ use Rattle.arith.specs.Arith.{atomic_of, swap_of, word_of}
 use Rattle.across.proofs.Reading.{reads_executing, shuffle_reads}
 use Rattle.compute.specs.declared.Shape.{Shape}
 use Rattle.compute.specs.Operands.{Lent}
-use Rattle.runs.specs.Results.{register, turn_at, work_of, found_by, rs1_of, rs2_of, rs3_of, result_by, result_of}
+use Rattle.runs.specs.Results.{register, turn_at, found_by, rs1_of, rs2_of, rs3_of, result_by, result_of}
 
 -- ---- lanes that take turns at a memory
 

@@ -1,6 +1,5 @@
 -- The loop stays in the text that was given, and the case in its array.
 use Prim.Native.Nat.{◌-◌, ◌≤◌}
-use borrow.Author.Rules.{rules}
 use Rattle.block_cases.proofs.main.Given as goal
 
 abbrev pub invariant-loop-count : goal.invariant-loop-count

@@ -1,7 +1,6 @@
 -- The loop ends with the digits.
 use Prim.Native.Nat.{◌-◌}
 use lib.ListN.{length}
-use borrow.Author.Rules.{rules}
 use Rattle.block_cases.proofs.word_of.Given as goal
 
 abbrev pub decreases-loop-i : goal.decreases-loop-i

@@ -1,7 +1,6 @@
 -- `compute::carry` meets its contract: a comparison by the law of its class; every other instruction, with none of the comparisons' tags, by
 -- `carry_class`, with the predicate as it was.
 use mathlib.Core.Path.{refl}
-use borrow.Author.Rules.{rules}
 use Rattle.compute.proofs.Standing.{narrow, stands_rs1, stands_rs2}
 use Rattle.compute.proofs.Arms.{arm_compare}
 use Rattle.compute.proofs.carry.Goals as goal

@@ -1,6 +1,5 @@
 -- `compute::carry_class` meets its contract: each class has carried out its instructions, whatever the predicate; a comparison is none of
 -- them, and control does nothing.
-use borrow.Author.Rules.{rules}
 use Rattle.compute.proofs.Arms.{arm_control}
 use Rattle.compute.proofs.carry_class.Goals as goal
 

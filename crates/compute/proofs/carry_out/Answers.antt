@@ -1,6 +1,5 @@
 -- `compute::carry_out` meets its contract, by what `in_shape` told.
 use mathlib.Core.Path.{sym, ap, ◌∙◌}
-use borrow.Author.Rules.{rules}
 use Rattle.faulting.specs.declared.faults.Faults.{Faults}
 use Rattle.compute.specs.Operands.{lent}
 use Rattle.compute.specs.Carrying.{outcome}

@@ -1,7 +1,6 @@
 -- `compute::in_shape` meets its contract: a product of two numbers of 32 bits has 64.
 use mathlib.Core.Path.{refl}
 use native.Mathlib.Omega.{arith}
-use borrow.Author.Rules.{rules}
 use Rattle.ground.proofs.Numbers.{product_lt}
 use Rattle.compute.proofs.in_shape.Goals as goal
 

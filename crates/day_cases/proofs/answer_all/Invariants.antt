@@ -1,7 +1,4 @@
 -- Every part that is taken lies in the cases.
-use native.Mathlib.Omega.{arith}
-use mathlib.Core.Logic.{⊎_elim}
-use borrow.Author.Rules.{rules}
 use Prim.Native.Nat.{◌-◌, ◌≤◌}
 use lib.ListN.{length}
 use Rattle.day_cases.proofs.answer_all.Given as goal

@@ -2,7 +2,6 @@
 use mathlib.Core.Path.{sym}
 use native.Mathlib.Omega.{arith}
 use lib.Seq.{length-take-le}
-use borrow.Author.Rules.{rules}
 use Rattle.day_cases.proofs.answer_make_in.Goals as goal
 
 pub slice_bounds-answer_make-end : goal.slice_bounds-answer_make-end

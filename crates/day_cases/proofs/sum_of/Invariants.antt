@@ -1,7 +1,5 @@
 -- The sum stays below 2^32.
-use borrow.Author.Rules.{rules}
 use Prim.Native.Nat.{◌-◌, ◌≤◌, ◌<◌}
-use native.Mathlib.Omega.{arith}
 use lib.ListN.{length}
 use Rattle.day_cases.proofs.sum_of.Given as goal
 

@@ -1,6 +1,5 @@
 -- The two bounds, the place with its open blocks, and the sets.
 use Rattle.fits.proofs.Comparing.{tested}
-use borrow.Author.Rules.{rules}
 use Rattle.fits.proofs.fits.Goals as goal
 
 pub returns : goal.returns

@@ -2,7 +2,6 @@
 use native.Mathlib.Omega.{arith}
 use Rattle.naming.proofs.Packing.{puts_near}
 use Rattle.naming.proofs.Whole.{line_puts}
-use borrow.Author.Rules.{rules}
 use Rattle.naming.proofs.put_line.Goals as goal
 
 pub put_pieces-q2-requires : goal.put_pieces-q2-requires

@@ -1,6 +1,5 @@
 -- By the test of the room.
 use Rattle.naming.proofs.Whole.{no_room, put_room}
-use borrow.Author.Rules.{rules}
 use Rattle.naming.proofs.put_whole.Goals as goal
 
 pub returns-then-out-n : goal.returns-then-out-n

@@ -1,6 +1,5 @@
 -- A control operation is what `control_item` says, any other is plain.
 use mathlib.Core.Path.{sym, ◌∙◌}
-use borrow.Author.Rules.{rules}
 use Rattle.blocks.proofs.item.item_of.Goals as goal
 
 pub returns-in-Control : goal.returns-in-Control

@@ -1,7 +1,6 @@
 -- What was read decides: the refusal, or the registers and then the operation.
 use mathlib.Core.Path.{sym, ◌∙◌}
 use Rattle.blocks.proofs.Items.{seen_whole, seen_past, seen_refused}
-use borrow.Author.Rules.{rules}
 use Rattle.blocks.proofs.item.look.Goals as goal
 
 pub returns-then-registers_below : goal.returns-then-registers_below

@@ -1,5 +1,4 @@
 -- Each surrounding in turn.
-use borrow.Author.Rules.{rules}
 use Rattle.blocks.proofs.rules.at_endloop.Goals as goal
 
 pub returns-in-Nothing : goal.returns-in-Nothing

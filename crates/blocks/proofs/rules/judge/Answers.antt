@@ -1,5 +1,4 @@
 -- Each item in turn, by the rule of its own function.
-use borrow.Author.Rules.{rules}
 use Rattle.blocks.proofs.rules.judge.Goals as goal
 
 pub returns-in-Plain : goal.returns-in-Plain

@@ -4,7 +4,7 @@ use Rattle.blocks.specs.declared.item.Item.{Item}
 use Rattle.blocks.specs.declared.item.Reading.{Reading}
 use Rattle.blocks.specs.declared.rules.Inside.{Inside}
 use Rattle.blocks.specs.declared.rules.Turn.{Turn}
-use Rattle.blocks.specs.Code.{code_of, Code}
+use Rattle.blocks.specs.Code.{code_of}
 use Rattle.blocks.specs.Rules.{turn_of}
 use Rattle.blocks.proofs.Widths.{code_fits}
 use Rattle.blocks.proofs.Judging.{turned}

@@ -1,6 +1,5 @@
 -- The whole code is a level outside every block, which nothing closes.
 use Rattle.blocks.proofs.Reaching.{whole_closed, whole_refused, whole_ended}
-use borrow.Author.Rules.{rules}
 use Rattle.blocks.proofs.structure.check.Goals as goal
 
 pub returns-in-Closed : goal.returns-in-Closed

@@ -1,6 +1,5 @@
 -- By the verdict: the first broken rule, or the words taken.
 use Rattle.captures.proofs.Accepted.{read_broken, read_fine}
-use borrow.Author.Rules.{rules}
 use Rattle.captures.proofs.reading.read.Goals as goal
 
 pub returns-in-Broken : goal.returns-in-Broken

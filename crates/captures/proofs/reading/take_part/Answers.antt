@@ -3,7 +3,6 @@ use mathlib.Core.Path.{sym}
 use native.Mathlib.Omega.{arith}
 use lib.Seq.{length-take-le}
 use Rattle.captures.proofs.Accepted.{part_taken}
-use borrow.Author.Rules.{rules}
 use Rattle.captures.proofs.reading.take_part.Goals as goal
 
 pub slice_bounds-get_words-end-2 : goal.slice_bounds-get_words-end-2

@@ -1,6 +1,5 @@
 -- Part by part.
 use Rattle.captures.proofs.Accepted.{taken}
-use borrow.Author.Rules.{rules}
 use Rattle.captures.proofs.reading.take_parts.Goals as goal
 
 pub returns : goal.returns

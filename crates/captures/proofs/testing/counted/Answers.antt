@@ -1,6 +1,5 @@
 -- The names of the counts, in order.
 use mathlib.Core.Path.{refl}
-use borrow.Author.Rules.{rules}
 use Rattle.captures.specs.Capture.{counts_in}
 use Rattle.captures.proofs.testing.counted.Goals as goal
 

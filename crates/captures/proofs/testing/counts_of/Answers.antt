@@ -1,5 +1,4 @@
 -- The counts are the numbers that stand at their place.
-use borrow.Author.Rules.{rules}
 use Rattle.captures.specs.Read.{counts_at}
 use Rattle.captures.proofs.testing.counts_of.Goals as goal
 

@@ -1,6 +1,5 @@
 -- The settings are the numbers that stand at their place, by name.
 use mathlib.Core.Path.{ap}
-use borrow.Author.Rules.{rules}
 use Rattle.captures.specs.Capture.{head_in}
 use Rattle.captures.specs.Read.{settings_at}
 use Rattle.captures.proofs.testing.head_of.Goals as goal

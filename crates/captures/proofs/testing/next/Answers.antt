@@ -1,6 +1,5 @@
 -- By what was broken before.
 use Rattle.captures.proofs.Tested.{next_broken, next_fine, next_not}
-use borrow.Author.Rules.{rules}
 use Rattle.captures.proofs.testing.next.Goals as goal
 
 pub returns-in-Broken : goal.returns-in-Broken

@@ -1,14 +1,9 @@
 -- At turn k the place is that of part k; counts of four bytes keep it small.
 use mathlib.Core.Path.{◌≡◌}
-use Prim.Native.Nat.{◌+◌, ◌*◌, ◌-◌, ◌≤◌, ◌<◌}
-use native.Mathlib.Omega.{arith}
-use lib.ListN.{get_or}
-use mir.Syntax.{w32}
-use borrow.Author.Rules.{rules, elem_Fits}
+use Prim.Native.Nat.{◌+◌, ◌*◌, ◌-◌, ◌≤◌}
 use Rattle.numbers.specs.Numbers.{bound}
 use Rattle.captures.specs.Capture.{header_bytes}
 use Rattle.captures.specs.Read.{place_of}
-use Rattle.captures.proofs.Parts.{place_none, place_more}
 use Rattle.captures.proofs.testing.place_of.Given as goal
 
 abbrev pub invariant-loop-k : goal.invariant-loop-k

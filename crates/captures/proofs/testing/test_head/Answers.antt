@@ -1,6 +1,5 @@
 -- The tests one after another.
 use Rattle.captures.proofs.Tested.{head_tested}
-use borrow.Author.Rules.{rules}
 use Rattle.captures.proofs.testing.test_head.Goals as goal
 
 pub returns : goal.returns

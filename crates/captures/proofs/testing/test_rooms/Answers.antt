@@ -1,10 +1,6 @@
 -- At turn k what is left to test gives the whole verdict.
-use Prim.Native.Nat.{◌-◌}
 use native.Mathlib.Omega.{arith}
-use borrow.Author.Rules.{rules}
-use Rattle.captures.specs.Capture.{part_count, counts_place}
-use Rattle.captures.specs.Read.{test_rooms}
-use Rattle.captures.proofs.Tested.{Testing, testing_none, testing_more, testing_all}
+use Rattle.captures.proofs.Tested.{testing_none, testing_more, testing_all}
 use Rattle.captures.proofs.testing.test_rooms.Goals as goal
 
 pub loop-k-init : goal.loop-k-init

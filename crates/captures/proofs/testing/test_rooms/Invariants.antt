@@ -1,10 +1,8 @@
 -- At turn k what is left to test gives the whole verdict.
 use Prim.Native.Nat.{◌-◌}
-use native.Mathlib.Omega.{arith}
-use borrow.Author.Rules.{rules}
 use Rattle.captures.specs.Capture.{part_count, counts_place}
 use Rattle.captures.specs.Read.{test_rooms}
-use Rattle.captures.proofs.Tested.{Testing, testing_none, testing_more, testing_all}
+use Rattle.captures.proofs.Tested.{Testing}
 use Rattle.captures.proofs.testing.test_rooms.Given as goal
 
 abbrev pub invariant-loop-k : goal.invariant-loop-k

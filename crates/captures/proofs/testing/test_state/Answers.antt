@@ -3,7 +3,7 @@ use Prim.Native.Nat.{ℕ, ◌+◌, ◌*◌, ◌<◌}
 use mathlib.Core.Path.{ap}
 use native.Mathlib.Omega.{arith}
 use mir.Syntax.{w32}
-use borrow.Author.Rules.{rules, elem_Fits}
+use borrow.Author.Rules.{elem_Fits}
 use Rattle.numbers.specs.Numbers.{bound}
 use Rattle.packing.specs.Words.{hot_words, depth_word, state_size}
 use Rattle.captures.specs.Capture.{state_part}

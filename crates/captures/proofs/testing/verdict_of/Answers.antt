@@ -1,6 +1,5 @@
 -- The tests one after another.
 use Rattle.captures.proofs.Tested.{all_tested}
-use borrow.Author.Rules.{rules}
 use Rattle.captures.proofs.testing.verdict_of.Goals as goal
 
 pub returns : goal.returns

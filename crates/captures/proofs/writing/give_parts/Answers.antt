@@ -3,7 +3,6 @@ use mathlib.Core.Path.{ap, ◌∙◌}
 use lib.ListN.{length}
 use Rattle.numbers.proofs.Placing.{length-placed}
 use Rattle.captures.proofs.Laid.{laid}
-use borrow.Author.Rules.{rules}
 use Rattle.captures.proofs.writing.give_parts.Goals as goal
 
 pub shape_of-file : goal.shape_of-file

@@ -1,7 +1,6 @@
 -- By the length: too short for a state, or with a seventh word.
 use native.Mathlib.Omega.{arith}
 use Rattle.captures.proofs.Tested.{state_short, state_long}
-use borrow.Author.Rules.{rules}
 use Rattle.captures.proofs.writing.state_fits.Goals as goal
 
 pub returns-then-state-lt-HOT_WORDS : goal.returns-then-state-lt-HOT_WORDS

@@ -3,10 +3,8 @@ use mathlib.Core.Path.{◌≡◌, refl, sym, ◌∙◌}
 use mathlib.Core.Bool.{true}
 use native.Mathlib.Omega.{arith}
 use lib.ListN.{length}
-use borrow.Author.Tests.{not-true, not-false}
-use Rattle.captures.specs.Capture.{Capture, capture_of, in_parts, captured, fits}
+use Rattle.captures.specs.Capture.{capture_of, in_parts, captured, fits}
 use Rattle.captures.proofs.Laid.{fits_so, fits_small, length_capture, write_not, write_short, write_so}
-use borrow.Author.Rules.{rules}
 use Rattle.captures.proofs.writing.write.Goals as goal
 
 pub returns-then-not-fits : goal.returns-then-not-fits

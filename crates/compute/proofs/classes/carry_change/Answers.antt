@@ -3,7 +3,6 @@
 use Prim.Native.Nat.{ℕ, ◌^◌, ◌<◌}
 use native.Mathlib.Omega.{arith}
 use lib.ListN.{get_or}
-use borrow.Author.Rules.{rules}
 use Rattle.compute.proofs.Standing.{ready_change}
 use Rattle.compute.proofs.Arms.{arm_change, arm_unchanged}
 use Rattle.compute.proofs.classes.carry_change.Goals as goal

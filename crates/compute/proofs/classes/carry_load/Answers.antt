@@ -1,6 +1,5 @@
 -- `compute::classes::carry_load` meets its contract, by cases of the memory.
 use mathlib.Core.Path.{ap}
-use borrow.Author.Rules.{rules}
 use Rattle.instructions.specs.declared.instr.Space.{Space}
 use Rattle.instructions.specs.declared.instr.Op.{Op}
 use Rattle.compute.proofs.Standing.{ready_as}

@@ -1,6 +1,5 @@
 -- `compute::classes::carry_number` meets its contract: the writer was handed the results, and no fault.
 use mathlib.Core.Path.{refl}
-use borrow.Author.Rules.{rules}
 use Rattle.compute.proofs.Standing.{ready_rd}
 use Rattle.compute.proofs.Arms.{arm_number}
 use Rattle.compute.proofs.classes.carry_number.Goals as goal

@@ -1,6 +1,5 @@
 -- `compute::classes::carry_one` meets its contract: the writer was handed the results, and no fault.
 use mathlib.Core.Path.{refl}
-use borrow.Author.Rules.{rules}
 use Rattle.compute.proofs.Standing.{ready_rd, ready_rs1}
 use Rattle.compute.proofs.Arms.{arm_one}
 use Rattle.compute.proofs.classes.carry_one.Goals as goal

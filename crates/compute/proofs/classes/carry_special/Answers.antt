@@ -1,6 +1,5 @@
 -- `compute::classes::carry_special` meets its contract: the writer was handed the results, and no fault.
 use mathlib.Core.Path.{refl}
-use borrow.Author.Rules.{rules}
 use Rattle.compute.proofs.Standing.{ready_narrow, ready_rd}
 use Rattle.compute.proofs.Arms.{arm_special}
 use Rattle.compute.proofs.classes.carry_special.Goals as goal

@@ -1,6 +1,5 @@
 -- `compute::classes::carry_store` meets its contract, by cases of the memory.
 use mathlib.Core.Path.{ap}
-use borrow.Author.Rules.{rules}
 use Rattle.instructions.specs.declared.instr.Op.{Op}
 use Rattle.compute.proofs.Standing.{ready_as}
 use Rattle.compute.proofs.Arms.{arm_store_device, arm_store_local}

@@ -1,6 +1,5 @@
 -- `compute::classes::carry_two` meets its contract: the writer was handed the results and the faults of the operation.
 use mathlib.Core.Path.{refl}
-use borrow.Author.Rules.{rules}
 use Rattle.compute.proofs.Standing.{ready_rd, ready_rs1, ready_rs2}
 use Rattle.compute.proofs.Arms.{arm_two}
 use Rattle.compute.proofs.classes.carry_two.Goals as goal

@@ -1,6 +1,5 @@
 -- `compute::classes::carry_wave` meets its contract: the writer was handed the results of the registers read, and no fault.
 use mathlib.Core.Path.{refl}
-use borrow.Author.Rules.{rules}
 use Rattle.compute.proofs.Standing.{ready_rd, ready_rs1}
 use Rattle.compute.proofs.Arms.{arm_wave}
 use Rattle.compute.proofs.classes.carry_wave.Goals as goal

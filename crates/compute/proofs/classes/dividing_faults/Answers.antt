@@ -1,6 +1,5 @@
 -- `compute::classes::dividing_faults` meets its contract, by what `divides` told.
 use mathlib.Core.Path.{sym, ◌∙◌}
-use borrow.Author.Rules.{rules}
 use Rattle.compute.proofs.Dividing.{divided, undivided}
 use Rattle.compute.proofs.classes.dividing_faults.Goals as goal
 

@@ -4,7 +4,6 @@ use mathlib.Core.List.{List}
 use Prim.Native.Nat.{ℕ, ◌^◌, ◌<◌}
 use native.Mathlib.Omega.{arith}
 use lib.ListN.{get_or}
-use borrow.Author.Rules.{rules}
 use Rattle.compute.specs.Registers.{gather_of}
 use Rattle.compute.specs.Memory.{changes_of}
 use Rattle.compute.specs.Classes.{reach_faults}

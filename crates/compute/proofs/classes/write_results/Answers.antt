@@ -1,6 +1,5 @@
 -- `compute::classes::write_results` meets its contract, by what `is_clear` told.
 use mathlib.Core.Path.{refl}
-use borrow.Author.Rules.{rules}
 use Rattle.compute.proofs.Settling.{settled_changed, settled_same}
 use Rattle.compute.proofs.classes.write_results.Goals as goal
 

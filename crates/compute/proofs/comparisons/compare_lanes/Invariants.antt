@@ -1,16 +1,10 @@
 -- `compute::comparisons::compare_lanes` meets its contract: at turn i the lanes below i have their results.
-use mathlib.Core.Path.{ap, ◌∙◌}
-use mathlib.Core.Bool.{Bool, cond}
-use Prim.Native.Nat.{ℕ, ◌-◌, ◌<◌}
-use native.Mathlib.Omega.{arith}
-use lib.ListN.{length, get_or}
-use borrow.Author.Rules.{rules}
+use mathlib.Core.Bool.{cond}
+use Prim.Native.Nat.{◌-◌}
+use lib.ListN.{get_or}
 use Rattle.arith.specs.Arith.{compare_of}
 use Rattle.compute.specs.Registers.{gather_of}
-use Rattle.compute.specs.Lanewise.{compare_lanes}
-use Rattle.compute.proofs.Slots.{slot_in_lem}
-use Rattle.lanes.proofs.Filling.{Filled, filled_none, filled_all}
-use Rattle.compute.proofs.Lanewise.{filled_two}
+use Rattle.lanes.proofs.Filling.{Filled}
 use Rattle.compute.proofs.comparisons.compare_lanes.Given as goal
 
 abbrev pub invariant-loop-i : goal.invariant-loop-i

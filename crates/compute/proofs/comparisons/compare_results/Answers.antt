@@ -1,5 +1,4 @@
 -- `compute::comparisons::compare_results` meets its contract: each arm calls its operation's function.
-use borrow.Author.Rules.{rules}
 use Rattle.compute.proofs.comparisons.compare_results.Goals as goal
 
 pub returns-in-Eq : goal.returns-in-Eq

@@ -1,15 +1,10 @@
 -- `compute::comparisons::predicate_after` meets its contract: at turn i the set has the lanes below i whose result is 1.
-use mathlib.Core.Path.{ap₂, ◌∙◌}
 use mathlib.Core.Bool.{◌&&◌}
 use Prim.Native.Nat.{◌-◌}
-use native.Mathlib.Omega.{arith}
-use lib.Bits.{bit_or}
 use lib.Dec.{eqb}
 use lib.ListN.{get_or}
-use borrow.Author.Rules.{rules}
 use Rattle.lanes.specs.Sets.{has}
-use Rattle.lanes.proofs.Picking.{Marked, marked_none, marked_more, marked_all}
-use Rattle.compute.specs.Values.{predicate_of}
+use Rattle.lanes.proofs.Picking.{Marked}
 use Rattle.compute.proofs.comparisons.predicate_after.Given as goal
 
 abbrev pub invariant-loop-i : goal.invariant-loop-i

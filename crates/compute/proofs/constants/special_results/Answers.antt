@@ -1,12 +1,10 @@
 -- `compute::constants::special_results` meets its contract: at turn i the lanes below i have their results.
 use mathlib.Core.Path.{ap, ◌∙◌}
 use mathlib.Core.Bool.{cond}
-use Prim.Native.Nat.{ℕ, ◌-◌}
+use Prim.Native.Nat.{ℕ}
 use native.Mathlib.Omega.{arith}
 use lib.Dec.{eqb}
-use borrow.Author.Rules.{rules}
-use Rattle.compute.specs.Values.{special_of}
-use Rattle.lanes.proofs.Filling.{Filled, filled_none, filled_more, filled_all}
+use Rattle.lanes.proofs.Filling.{filled_none, filled_more, filled_all}
 use Rattle.compute.proofs.constants.special_results.Goals as goal
 
 pub loop-i-init : goal.loop-i-init

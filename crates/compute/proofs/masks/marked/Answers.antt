@@ -1,5 +1,4 @@
 -- `compute::masks::marked` meets its contract: a mask of one lane takes that lane out of a set.
-use borrow.Author.Rules.{rules}
 use Rattle.lanes.specs.Sets.{widest}
 use Rattle.lanes.proofs.Picking.{marks_one, marks_none}
 use Rattle.compute.proofs.masks.marked.Goals as goal

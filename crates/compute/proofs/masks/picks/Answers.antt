@@ -1,5 +1,4 @@
 -- `compute::masks::picks` meets its contract: a mask of one lane takes that lane out of a set.
-use borrow.Author.Rules.{rules}
 use Rattle.lanes.specs.Sets.{widest}
 use Rattle.lanes.proofs.Picking.{picks_one}
 use Rattle.compute.proofs.masks.picks.Goals as goal

@@ -1,12 +1,10 @@
 -- `compute::memory::addresses` meets its contract: at turn i the lanes below i have their results.
-use Prim.Native.Nat.{ℕ, ◌-◌, ◌<◌}
+use Prim.Native.Nat.{ℕ, ◌<◌}
 use native.Mathlib.Omega.{arith}
-use lib.ListN.{length, get_or}
-use borrow.Author.Rules.{rules}
+use lib.ListN.{length}
 use Rattle.arith.specs.Arith.{address_of}
-use Rattle.compute.specs.Registers.{gather_of}
 use Rattle.compute.proofs.Slots.{slot_in_lem}
-use Rattle.lanes.proofs.Filling.{Filled, filled_none, filled_all}
+use Rattle.lanes.proofs.Filling.{filled_none, filled_all}
 use Rattle.compute.proofs.Lanewise.{filled_one}
 use Rattle.compute.proofs.memory.addresses.Goals as goal
 

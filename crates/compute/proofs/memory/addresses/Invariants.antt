@@ -1,13 +1,9 @@
 -- `compute::memory::addresses` meets its contract: at turn i the lanes below i have their results.
-use Prim.Native.Nat.{ℕ, ◌-◌, ◌<◌}
-use native.Mathlib.Omega.{arith}
-use lib.ListN.{length, get_or}
-use borrow.Author.Rules.{rules}
+use Prim.Native.Nat.{◌-◌}
+use lib.ListN.{get_or}
 use Rattle.arith.specs.Arith.{address_of}
 use Rattle.compute.specs.Registers.{gather_of}
-use Rattle.compute.proofs.Slots.{slot_in_lem}
-use Rattle.lanes.proofs.Filling.{Filled, filled_none, filled_all}
-use Rattle.compute.proofs.Lanewise.{filled_one}
+use Rattle.lanes.proofs.Filling.{Filled}
 use Rattle.compute.proofs.memory.addresses.Given as goal
 
 abbrev pub invariant-loop-i : goal.invariant-loop-i

@@ -4,7 +4,6 @@ use mathlib.Core.Path.{ap, ap₂, ◌∙◌}
 use Prim.Native.Nat.{ℕ, ◌<◌}
 use native.Mathlib.Omega.{arith}
 use lib.ListN.{length, set}
-use borrow.Author.Rules.{rules}
 use Rattle.ground.proofs.Turns.{length-turned}
 use Rattle.lanes.specs.Sets.{widest}
 use Rattle.lanes.proofs.LowestLanes.{Lowest, waiting_lowest, waiting_fewer}
@@ -13,7 +12,7 @@ use Rattle.compute.specs.Lanewise.{change_of, change_to}
 use Rattle.compute.proofs.Slots.{slot_in_lem}
 use Rattle.compute.proofs.Lanewise.{read_gathered}
 use Rattle.compute.proofs.Changing.{length-change_turn}
-use Rattle.compute.proofs.Walking.{Walked, walked_none, walked_more, walked_all}
+use Rattle.compute.proofs.Walking.{walked_none, walked_more, walked_all}
 use Rattle.compute.proofs.memory.change_lanes.Goals as goal
 
 pub loop-rest-init : goal.loop-rest-init

@@ -1,19 +1,7 @@
 -- `compute::memory::change_lanes` meets its contract: the lanes take their turns from the lowest on, and what each found stands in the
 -- answer.
-use mathlib.Core.Path.{ap, ap₂, ◌∙◌}
-use Prim.Native.Nat.{ℕ, ◌<◌}
-use native.Mathlib.Omega.{arith}
-use lib.ListN.{length, set}
-use borrow.Author.Rules.{rules}
-use Rattle.ground.proofs.Turns.{length-turned}
-use Rattle.lanes.specs.Sets.{widest}
-use Rattle.lanes.proofs.LowestLanes.{Lowest, waiting_lowest, waiting_fewer}
-use Rattle.compute.specs.Memory.{word_at}
-use Rattle.compute.specs.Lanewise.{change_of, change_to}
-use Rattle.compute.proofs.Slots.{slot_in_lem}
-use Rattle.compute.proofs.Lanewise.{read_gathered}
-use Rattle.compute.proofs.Changing.{length-change_turn}
-use Rattle.compute.proofs.Walking.{Walked, walked_none, walked_more, walked_all}
+use Rattle.compute.specs.Lanewise.{change_to}
+use Rattle.compute.proofs.Walking.{Walked}
 use Rattle.compute.proofs.memory.change_lanes.Given as goal
 
 abbrev pub invariant-loop-rest : goal.invariant-loop-rest

@@ -2,7 +2,6 @@
 use mathlib.Core.Path.{ap, ◌∙◌}
 use Prim.Native.Nat.{ℕ}
 use lib.ListN.{set}
-use borrow.Author.Rules.{rules}
 use Rattle.arith.specs.Arith.{word_of}
 use Rattle.compute.specs.Lanewise.{change_of}
 use Rattle.compute.proofs.memory.change_word.Goals as goal

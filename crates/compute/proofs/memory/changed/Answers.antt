@@ -1,5 +1,4 @@
 -- `compute::memory::changed` meets its contract, by cases of the change.
-use borrow.Author.Rules.{rules}
 use Rattle.compute.proofs.memory.changed.Goals as goal
 
 pub returns-in-Atomic : goal.returns-in-Atomic

@@ -1,10 +1,7 @@
 -- `compute::memory::load_lanes` meets its contract: at turn i the lanes below i have their words.
 use Prim.Native.Nat.{◌-◌}
-use native.Mathlib.Omega.{arith}
-use borrow.Author.Rules.{rules}
 use Rattle.compute.specs.Memory.{word_at}
-use Rattle.compute.specs.Lanewise.{load_lanes}
-use Rattle.lanes.proofs.Filling.{Filled, filled_none, filled_more, filled_all}
+use Rattle.lanes.proofs.Filling.{Filled}
 use Rattle.compute.proofs.memory.load_lanes.Given as goal
 
 abbrev pub invariant-loop-i : goal.invariant-loop-i

@@ -1,6 +1,5 @@
 -- `compute::memory::put_picked` meets its contract: the word is put where the test holds.
 use mathlib.Core.Path.{refl, ◌∙◌}
-use borrow.Author.Rules.{rules}
 use Rattle.compute.proofs.memory.put_picked.Goals as goal
 
 pub returns-then-picked : goal.returns-then-picked

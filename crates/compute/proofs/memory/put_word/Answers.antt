@@ -1,7 +1,6 @@
 -- `compute::memory::put_word` meets its contract: setting past the end leaves a list as it is.
 use mathlib.Core.Path.{sym}
 use lib.Seq.{set_out}
-use borrow.Author.Rules.{rules}
 use Rattle.compute.proofs.memory.put_word.Goals as goal
 
 pub returns-else-k-memory : goal.returns-else-k-memory

@@ -1,13 +1,9 @@
 -- `compute::memory::store_lanes` meets its contract: at turn i the lanes below i have stored.
-use mathlib.Core.List.{List}
-use Prim.Native.Nat.{ℕ, ◌-◌, ◌<◌}
+use Prim.Native.Nat.{◌<◌}
 use native.Mathlib.Omega.{arith}
-use lib.ListN.{length, get_or}
-use borrow.Author.Rules.{rules}
-use Rattle.ground.proofs.Turns.{Turned, turned_none, turned_more, turned_all, length-turned}
-use Rattle.compute.specs.declared.Shape.{Shape}
-use Rattle.compute.specs.Registers.{gather_of}
-use Rattle.compute.specs.Memory.{change_turn, changes_of}
+use lib.ListN.{length}
+use Rattle.ground.proofs.Turns.{turned_none, turned_more, turned_all, length-turned}
+use Rattle.compute.specs.Memory.{changes_of}
 use Rattle.compute.proofs.Slots.{slot_in_lem}
 use Rattle.compute.proofs.Lanewise.{read_gathered}
 use Rattle.compute.proofs.Changing.{store_turn, length-change_turn}

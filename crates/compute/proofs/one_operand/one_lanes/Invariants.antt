@@ -1,14 +1,9 @@
 -- `compute::one_operand::one_lanes` meets its contract: at turn i the lanes below i have their results.
-use Prim.Native.Nat.{◌-◌, ◌<◌}
-use native.Mathlib.Omega.{arith}
-use lib.ListN.{length, get_or}
-use borrow.Author.Rules.{rules}
+use Prim.Native.Nat.{◌-◌}
+use lib.ListN.{get_or}
 use Rattle.arith.specs.Arith.{one_of}
 use Rattle.compute.specs.Registers.{gather_of}
-use Rattle.compute.specs.Lanewise.{one_lanes}
-use Rattle.compute.proofs.Slots.{slot_in_lem}
-use Rattle.lanes.proofs.Filling.{Filled, filled_none, filled_all}
-use Rattle.compute.proofs.Lanewise.{filled_one}
+use Rattle.lanes.proofs.Filling.{Filled}
 use Rattle.compute.proofs.one_operand.one_lanes.Given as goal
 
 abbrev pub invariant-loop-i : goal.invariant-loop-i

@@ -1,5 +1,4 @@
 -- `compute::one_operand::one_results` meets its contract: each arm calls its operation's function.
-use borrow.Author.Rules.{rules}
 use Rattle.compute.proofs.one_operand.one_results.Goals as goal
 
 pub returns-in-Neg : goal.returns-in-Neg

@@ -1,12 +1,8 @@
 -- `compute::registers::gather` meets its contract: at turn i the lanes below i have their registers.
-use mathlib.Core.Path.{ap}
-use Prim.Native.Nat.{ℕ, ◌-◌, ◌<◌}
-use native.Mathlib.Omega.{arith}
-use lib.ListN.{length, get_or}
-use borrow.Author.Rules.{rules}
-use Rattle.compute.specs.Registers.{slot_in, gather_of}
-use Rattle.lanes.proofs.Filling.{Filled, filled_none, filled_more, filled_all}
-use Rattle.compute.proofs.Slots.{slot_in_lem}
+use Prim.Native.Nat.{◌-◌}
+use lib.ListN.{get_or}
+use Rattle.compute.specs.Registers.{slot_in}
+use Rattle.lanes.proofs.Filling.{Filled}
 use Rattle.compute.proofs.registers.gather.Given as goal
 
 abbrev pub invariant-loop-i : goal.invariant-loop-i

@@ -1,7 +1,6 @@
 -- `compute::registers::slot` meets its contract: a product of two numbers of 32 bits, and a number of 32 bits more, has 64.
 use mathlib.Core.Path.{refl}
 use native.Mathlib.Omega.{arith}
-use borrow.Author.Rules.{rules}
 use Rattle.compute.specs.Registers.{slot}
 use Rattle.compute.proofs.Slots.{slot_fits}
 use Rattle.compute.proofs.registers.slot.Goals as goal

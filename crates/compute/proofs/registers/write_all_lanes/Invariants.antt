@@ -1,14 +1,8 @@
 -- `compute::registers::write_all_lanes` meets its contract: at turn i the lanes below i have had their turns, and each wrote.
-use mathlib.Core.Path.{◌≡◌}
-use Prim.Native.Nat.{◌-◌, ◌<◌}
-use native.Mathlib.Omega.{arith}
-use lib.ListN.{length}
-use borrow.Author.Rules.{rules}
-use Rattle.ground.proofs.Turns.{Turned, turned_none, turned_more, turned_all, length-turned}
+use Prim.Native.Nat.{◌-◌}
+use Rattle.ground.proofs.Turns.{Turned}
 use Rattle.lanes.specs.Sets.{first}
-use Rattle.compute.specs.Registers.{write_turn, write_lanes}
-use Rattle.compute.proofs.Slots.{slot_in_lem}
-use Rattle.compute.proofs.Writing.{write_turn_all, length-write_turn}
+use Rattle.compute.specs.Registers.{write_turn}
 use Rattle.compute.proofs.registers.write_all_lanes.Given as goal
 
 abbrev pub invariant-loop-i : goal.invariant-loop-i

@@ -1,6 +1,5 @@
 -- `compute::registers::write_lanes` meets its contract: the set of every lane below the width is written by the loop that tests none.
 use mathlib.Core.Path.{◌∙◌}
-use borrow.Author.Rules.{rules}
 use Rattle.compute.proofs.Writing.{write_lanes_all}
 use Rattle.compute.proofs.registers.write_lanes.Goals as goal
 

@@ -1,13 +1,7 @@
 -- `compute::registers::write_some_lanes` meets its contract: at turn i the lanes below i have had their turns.
-use mathlib.Core.Path.{◌≡◌}
-use Prim.Native.Nat.{◌-◌, ◌<◌}
-use native.Mathlib.Omega.{arith}
-use lib.ListN.{length}
-use borrow.Author.Rules.{rules}
-use Rattle.ground.proofs.Turns.{Turned, turned_none, turned_more, turned_all, length-turned}
-use Rattle.compute.specs.Registers.{write_turn, write_lanes}
-use Rattle.compute.proofs.Slots.{slot_in_lem}
-use Rattle.compute.proofs.Writing.{write_turn_lem, length-write_turn}
+use Prim.Native.Nat.{◌-◌}
+use Rattle.ground.proofs.Turns.{Turned}
+use Rattle.compute.specs.Registers.{write_turn}
 use Rattle.compute.proofs.registers.write_some_lanes.Given as goal
 
 abbrev pub invariant-loop-i : goal.invariant-loop-i

@@ -1,13 +1,11 @@
 -- `compute::two_operands::two_lanes` meets its contract: at turn i the lanes below i have their results.
-use Prim.Native.Nat.{◌-◌, ◌<◌}
+use Prim.Native.Nat.{◌<◌}
 use native.Mathlib.Omega.{arith}
-use lib.ListN.{length, get_or}
-use borrow.Author.Rules.{rules}
+use lib.ListN.{length}
 use Rattle.arith.specs.Arith.{two_of}
-use Rattle.compute.specs.Registers.{gather_of}
 use Rattle.compute.specs.Lanewise.{two_lanes}
 use Rattle.compute.proofs.Slots.{slot_in_lem}
-use Rattle.lanes.proofs.Filling.{Filled, filled_none, filled_all}
+use Rattle.lanes.proofs.Filling.{filled_none, filled_all}
 use Rattle.compute.proofs.Lanewise.{filled_two}
 use Rattle.compute.proofs.two_operands.two_lanes.Goals as goal
 

@@ -1,14 +1,9 @@
 -- `compute::two_operands::two_lanes` meets its contract: at turn i the lanes below i have their results.
-use Prim.Native.Nat.{◌-◌, ◌<◌}
-use native.Mathlib.Omega.{arith}
-use lib.ListN.{length, get_or}
-use borrow.Author.Rules.{rules}
+use Prim.Native.Nat.{◌-◌}
+use lib.ListN.{get_or}
 use Rattle.arith.specs.Arith.{two_of}
 use Rattle.compute.specs.Registers.{gather_of}
-use Rattle.compute.specs.Lanewise.{two_lanes}
-use Rattle.compute.proofs.Slots.{slot_in_lem}
-use Rattle.lanes.proofs.Filling.{Filled, filled_none, filled_all}
-use Rattle.compute.proofs.Lanewise.{filled_two}
+use Rattle.lanes.proofs.Filling.{Filled}
 use Rattle.compute.proofs.two_operands.two_lanes.Given as goal
 
 abbrev pub invariant-loop-i : goal.invariant-loop-i

@@ -1,5 +1,4 @@
 -- `compute::two_operands::two_results` meets its contract: each arm calls its operation's function.
-use borrow.Author.Rules.{rules}
 use Rattle.compute.proofs.two_operands.two_results.Goals as goal
 
 pub returns-in-Add : goal.returns-in-Add

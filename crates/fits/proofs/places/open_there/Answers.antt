@@ -1,6 +1,5 @@
 -- What the code has open at the place, against the first blocks of the array.
 use Rattle.fits.proofs.Comparing.{there_tested}
-use borrow.Author.Rules.{rules}
 use Rattle.fits.proofs.places.open_there.Goals as goal
 
 pub returns : goal.returns

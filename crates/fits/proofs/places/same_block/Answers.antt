@@ -1,5 +1,4 @@
 -- Both numbers of a block, one after the other.
-use borrow.Author.Rules.{rules}
 use Rattle.fits.proofs.places.same_block.Goals as goal
 
 pub returns : goal.returns

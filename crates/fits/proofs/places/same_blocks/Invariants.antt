@@ -1,11 +1,9 @@
 -- The invariant: what was compared so far and the blocks further out say what all of them do.
-use mathlib.Core.Path.{◌≡◌, refl, ◌∙◌}
+use mathlib.Core.Path.{◌≡◌}
 use mathlib.Core.Bool.{◌&&◌}
 use Prim.Native.Nat.{◌≤◌}
-use native.Mathlib.Omega.{arith}
 use Rattle.lanes.specs.Blocks.{nesting}
 use Rattle.fits.specs.FitsTest.{same_blocks}
-use Rattle.fits.proofs.Comparing.{same_next, same_end}
 use Rattle.fits.proofs.places.same_blocks.Given as goal
 
 abbrev pub invariant-loop-i : goal.invariant-loop-i

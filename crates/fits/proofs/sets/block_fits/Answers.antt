@@ -1,5 +1,4 @@
 -- What is asked of a block, one test after the other.
-use borrow.Author.Rules.{rules}
 use Rattle.fits.proofs.sets.block_fits.Goals as goal
 
 pub returns : goal.returns

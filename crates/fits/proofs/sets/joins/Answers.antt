@@ -1,5 +1,4 @@
 -- The sets are apart, and their union is the third.
-use borrow.Author.Rules.{rules}
 use Rattle.fits.proofs.sets.joins.Goals as goal
 
 pub returns : goal.returns

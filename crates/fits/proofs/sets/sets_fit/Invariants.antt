@@ -1,13 +1,10 @@
 -- The invariant: what the test said so far and what it says of the blocks further out is what it says of all.
-use mathlib.Core.Path.{◌≡◌, refl, ◌∙◌}
+use mathlib.Core.Path.{◌≡◌}
 use mathlib.Core.Bool.{◌&&◌}
 use Prim.Native.Nat.{◌≤◌}
-use native.Mathlib.Nat.{min-le_right}
-use native.Mathlib.Omega.{arith}
 use Rattle.lanes.specs.Blocks.{nesting}
 use Rattle.wave.specs.Layout.{opened}
 use Rattle.fits.specs.FitsTest.{path_test}
-use Rattle.fits.proofs.Testing.{test_next, test_end}
 use Rattle.fits.proofs.sets.sets_fit.Given as goal
 
 abbrev pub invariant-loop-i : goal.invariant-loop-i

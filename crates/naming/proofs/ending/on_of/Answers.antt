@@ -1,6 +1,5 @@
 -- By the test.
 use Rattle.naming.proofs.Pieced.{on_none, on_some}
-use borrow.Author.Rules.{rules}
 use Rattle.naming.proofs.ending.on_of.Goals as goal
 
 pub returns-then-guard-eq0 : goal.returns-then-guard-eq0

@@ -2,7 +2,6 @@
 use native.Mathlib.Omega.{arith}
 use Rattle.numbers.proofs.Placing.{puts_join, puts_same}
 use Rattle.naming.proofs.Packing.{puts_near}
-use borrow.Author.Rules.{rules}
 use Rattle.naming.proofs.ending.put_ending.Goals as goal
 
 pub put_pieces-requires : goal.put_pieces-requires

@@ -1,6 +1,5 @@
 -- By the test.
 use Rattle.naming.proofs.Pieced.{scope_none, scope_some}
-use borrow.Author.Rules.{rules}
 use Rattle.naming.proofs.ending.scope_of.Goals as goal
 
 pub returns-then-scope-eq0 : goal.returns-then-scope-eq0

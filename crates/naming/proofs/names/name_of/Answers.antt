@@ -3,7 +3,6 @@ use mathlib.Core.Path.{sym, ap, ◌∙◌}
 use mathlib.Core.List.{[], ◌∷◌}
 use Prim.Native.Nat.{ℕ}
 use Rattle.naming.specs.Pieces.{name_parts}
-use borrow.Author.Rules.{rules}
 use Rattle.naming.proofs.names.name_of.Goals as goal
 
 pub returns-in-Two : goal.returns-in-Two

@@ -1,5 +1,4 @@
 -- The pieces of a wave operation's name, arm by arm.
-use borrow.Author.Rules.{rules}
 use Rattle.naming.proofs.names.wave_name.Goals as goal
 
 pub returns-in-Broadcast : goal.returns-in-Broadcast

@@ -2,7 +2,6 @@
 use native.Mathlib.Omega.{arith}
 use Rattle.texts.proofs.Numbers.{places_few}
 use Rattle.naming.proofs.Leading.{decimal_piece}
-use borrow.Author.Rules.{rules}
 use Rattle.naming.proofs.numerals.decimal.Goals as goal
 
 pub digits_of-requires : goal.digits_of-requires

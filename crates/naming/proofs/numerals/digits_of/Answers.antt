@@ -2,8 +2,7 @@
 use Prim.Native.Nat.{◌%◌, ◌<◌, ◌^◌}
 use native.Mathlib.Nat.{mod-lt}
 use native.Mathlib.Omega.{arith}
-use Rattle.naming.proofs.Leading.{Led, led_none, led_room, led_on, led_all, glyph_byte}
-use borrow.Author.Rules.{rules}
+use Rattle.naming.proofs.Leading.{led_none, led_room, led_on, led_all, glyph_byte}
 use Rattle.naming.proofs.numerals.digits_of.Goals as goal
 
 pub loop-more-init : goal.loop-more-init

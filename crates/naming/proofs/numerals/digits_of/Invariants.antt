@@ -1,9 +1,5 @@
 -- What is still to be put before the text gives the whole.
-use Prim.Native.Nat.{◌%◌, ◌<◌, ◌^◌}
-use native.Mathlib.Nat.{mod-lt}
-use native.Mathlib.Omega.{arith}
-use Rattle.naming.proofs.Leading.{Led, led_none, led_room, led_on, led_all, glyph_byte}
-use borrow.Author.Rules.{rules}
+use Rattle.naming.proofs.Leading.{Led}
 use Rattle.naming.proofs.numerals.digits_of.Given as goal
 
 abbrev pub invariant-loop-more : goal.invariant-loop-more

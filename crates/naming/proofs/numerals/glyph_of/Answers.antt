@@ -1,6 +1,5 @@
 -- By the test.
 use Rattle.naming.proofs.Leading.{glyph_small, glyph_large}
-use borrow.Author.Rules.{rules}
 use Rattle.naming.proofs.numerals.glyph_of.Goals as goal
 
 pub returns-then-d-lt10 : goal.returns-then-d-lt10

@@ -1,6 +1,5 @@
 -- By the test.
 use Rattle.naming.proofs.Leading.{numeral_decimal, numeral_hex}
-use borrow.Author.Rules.{rules}
 use Rattle.naming.proofs.numerals.numeral_of.Goals as goal
 
 pub returns-then-n-lt-HEX_FROM : goal.returns-then-n-lt-HEX_FROM

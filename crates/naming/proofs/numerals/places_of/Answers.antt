@@ -1,7 +1,6 @@
 -- The digits taken off, and those that are left, are all.
 use native.Mathlib.Omega.{arith}
-use Rattle.naming.proofs.Leading.{Taken, taken_none, taken_on, taken_some, taken_all}
-use borrow.Author.Rules.{rules}
+use Rattle.naming.proofs.Leading.{taken_none, taken_on, taken_some, taken_all}
 use Rattle.naming.proofs.numerals.places_of.Goals as goal
 
 pub loop-left-init : goal.loop-left-init

@@ -1,7 +1,5 @@
 -- The digits taken off, and those that are left, are all.
-use native.Mathlib.Omega.{arith}
-use Rattle.naming.proofs.Leading.{Taken, taken_none, taken_on, taken_some, taken_all}
-use borrow.Author.Rules.{rules}
+use Rattle.naming.proofs.Leading.{Taken}
 use Rattle.naming.proofs.numerals.places_of.Given as goal
 
 abbrev pub invariant-loop-left : goal.invariant-loop-left

@@ -1,7 +1,6 @@
 -- Each field by the piece that was made of it.
 use native.Mathlib.Omega.{arith}
 use Rattle.naming.proofs.Pieced.{special_piece, number_parts}
-use borrow.Author.Rules.{rules}
 use Rattle.naming.proofs.operands.fields_of.Goals as goal
 
 pub returns : goal.returns

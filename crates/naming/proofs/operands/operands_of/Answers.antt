@@ -1,5 +1,4 @@
 -- By the form, arm by arm: each is the line of `arranged`.
-use borrow.Author.Rules.{rules}
 use Rattle.naming.proofs.operands.operands_of.Goals as goal
 
 pub returns-in-Two : goal.returns-in-Two

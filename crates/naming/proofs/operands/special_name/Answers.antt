@@ -1,6 +1,5 @@
 -- Past the three there is no name.
 use Rattle.naming.proofs.Pieced.{no_special}
-use borrow.Author.Rules.{rules}
 use Rattle.naming.proofs.operands.special_name.Goals as goal
 
 pub returns-in_default : goal.returns-in_default

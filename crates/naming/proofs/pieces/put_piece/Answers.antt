@@ -1,7 +1,6 @@
 -- What is left to put, put where the loop stands, gives the whole.
 use native.Mathlib.Omega.{arith}
-use Rattle.naming.proofs.Packing.{Left, left_all, left_on, left_zero, left_full}
-use borrow.Author.Rules.{rules}
+use Rattle.naming.proofs.Packing.{left_all, left_on, left_zero, left_full}
 use Rattle.naming.proofs.pieces.put_piece.Goals as goal
 
 pub loop-room-init : goal.loop-room-init

@@ -1,7 +1,5 @@
 -- What is left to put, put where the loop stands, gives the whole.
-use native.Mathlib.Omega.{arith}
-use Rattle.naming.proofs.Packing.{Left, left_all, left_on, left_zero, left_full}
-use borrow.Author.Rules.{rules}
+use Rattle.naming.proofs.Packing.{Left}
 use Rattle.naming.proofs.pieces.put_piece.Given as goal
 
 abbrev pub invariant-loop-room : goal.invariant-loop-room

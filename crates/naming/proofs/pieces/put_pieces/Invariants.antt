@@ -1,9 +1,7 @@
 -- What is left to put, put where the loop stands, gives the whole.
 use Prim.Native.Nat.{◌-◌}
-use native.Mathlib.Omega.{arith}
 use lib.ListN.{length}
-use Rattle.naming.proofs.Packing.{Laid, laid_none, laid_on, laid_all}
-use borrow.Author.Rules.{rules}
+use Rattle.naming.proofs.Packing.{Laid}
 use Rattle.naming.proofs.pieces.put_pieces.Given as goal
 
 abbrev pub invariant-loop-k : goal.invariant-loop-k

@@ -8,7 +8,6 @@ use Rattle.blocks.specs.Code.{code_of}
 use Rattle.blocks.proofs.Widths.{code_fits}
 use Rattle.blocks.proofs.Judging.{turned}
 use Rattle.nesting.proofs.Advances.{Ready, stopped, on, on_ok, close, enter, enter_ok, stop}
-use borrow.Author.Rules.{rules}
 use Rattle.nesting.proofs.places.advance.Goals as goal
 
 pub returns-then-code-at : goal.returns-then-code-at

@@ -2,7 +2,6 @@
 use native.Mathlib.Omega.{arith}
 use mathlib.Core.Path.{◌∙◌}
 use Rattle.nesting.proofs.Stacks.{none_inside, some_inside}
-use borrow.Author.Rules.{rules}
 use Rattle.nesting.proofs.places.inner.Goals as goal
 
 pub returns-then-depth-eq0 : goal.returns-then-depth-eq0

@@ -3,7 +3,6 @@ use mathlib.Core.Bool.{false}
 use mathlib.Core.Path.{ap}
 use mathlib.Core.List.{[]}
 use Rattle.nesting.proofs.Stacks.{holds_is}
-use borrow.Author.Rules.{rules}
 use Rattle.nesting.proofs.places.not_found.Goals as goal
 
 pub returns : goal.returns

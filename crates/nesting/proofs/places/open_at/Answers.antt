@@ -1,12 +1,9 @@
 -- The walk of `open_at`: the loop has come to a place with the blocks open that its stack holds (`Walked`).
-use Prim.Native.Nat.{◌-◌}
 use native.Mathlib.Omega.{arith}
 use mathlib.Core.Path.{refl, ◌∙◌}
 use mathlib.Core.List.{[]}
-use borrow.Author.Rules.{rules}
-use Rattle.blocks.specs.Code.{code_of}
 use Rattle.blocks.proofs.Widths.{code_fits}
-use Rattle.nesting.proofs.Walks.{Walked, further, farther, nothing, arrived, missed}
+use Rattle.nesting.proofs.Walks.{further, farther, nothing, arrived, missed}
 use Rattle.nesting.proofs.places.open_at.Goals as goal
 
 pub loop-at-init : goal.loop-at-init

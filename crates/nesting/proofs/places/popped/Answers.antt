@@ -1,7 +1,6 @@
 -- The top slot is cleared, and a loop is no longer counted.
 use native.Mathlib.Omega.{arith}
 use Rattle.nesting.proofs.Stacks.{pop, pop_none, pop_loop, pop_other}
-use borrow.Author.Rules.{rules}
 use Rattle.nesting.proofs.places.popped.Goals as goal
 
 pub returns-then-depth-eq0 : goal.returns-then-depth-eq0

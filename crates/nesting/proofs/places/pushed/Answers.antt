@@ -1,6 +1,5 @@
 -- One slot more is filled, and a loop is counted.
 use Rattle.nesting.proofs.Stacks.{push, one_more, no_more}
-use borrow.Author.Rules.{rules}
 use Rattle.nesting.proofs.places.pushed.Goals as goal
 
 pub returns-then-n-eq-LOOP : goal.returns-then-n-eq-LOOP

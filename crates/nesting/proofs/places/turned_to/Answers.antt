@@ -1,6 +1,5 @@
 -- The top slot's part is replaced.
 use Rattle.nesting.proofs.Stacks.{turn_none, turn}
-use borrow.Author.Rules.{rules}
 use Rattle.nesting.proofs.places.turned_to.Goals as goal
 
 pub returns-then-depth-eq0 : goal.returns-then-depth-eq0

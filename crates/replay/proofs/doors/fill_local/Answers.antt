@@ -1,5 +1,4 @@
 -- By the verdict: nothing is done, or every word is filled.
-use borrow.Author.Rules.{rules}
 use Rattle.replay.proofs.doors.fill_local.Goals as goal
 
 pub returns-in-Fine : goal.returns-in-Fine

@@ -3,7 +3,6 @@ use mathlib.Core.Path.{ap, ◌∙◌}
 use Rattle.stepping.specs.Answer.{answered}
 use Rattle.replay.specs.Replay.{refused_as, launch_of}
 use Rattle.replay.proofs.Entering.{refused_by, run_by, launched_run, unfilled, full}
-use borrow.Author.Rules.{rules}
 use Rattle.replay.proofs.doors.launch.Goals as goal
 
 pub returns-in-Refused : goal.returns-in-Refused

@@ -1,7 +1,6 @@
 -- By the verdict of the tests: the refusal, or the run from the state.
 use Rattle.replay.specs.Replay.{resume_of}
 use Rattle.replay.proofs.Entering.{refused_by, run_by}
-use borrow.Author.Rules.{rules}
 use Rattle.replay.proofs.doors.resume.Goals as goal
 
 pub returns-in-Refused : goal.returns-in-Refused

@@ -1,10 +1,8 @@
 -- The first i words are filled, and the rest is as lent.
-use mathlib.Core.Path.{◌≡◌, refl}
-use Prim.Native.Nat.{◌-◌, ◌≤◌}
+use mathlib.Core.Path.{refl}
 use native.Mathlib.Omega.{arith}
-use lib.ListN.{length, length-set}
-use Rattle.ground.proofs.Fills.{filled_to, fill_turn, fill_end}
-use borrow.Author.Rules.{rules}
+use lib.ListN.{length-set}
+use Rattle.ground.proofs.Fills.{fill_turn, fill_end}
 use Rattle.replay.proofs.filling.fill_with.Goals as goal
 
 pub loop-i-init : goal.loop-i-init

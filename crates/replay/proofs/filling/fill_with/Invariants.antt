@@ -1,10 +1,8 @@
 -- The first i words are filled, and the rest is as lent.
-use mathlib.Core.Path.{◌≡◌, refl}
+use mathlib.Core.Path.{◌≡◌}
 use Prim.Native.Nat.{◌-◌, ◌≤◌}
-use native.Mathlib.Omega.{arith}
-use lib.ListN.{length, length-set}
-use Rattle.ground.proofs.Fills.{filled_to, fill_turn, fill_end}
-use borrow.Author.Rules.{rules}
+use lib.ListN.{length}
+use Rattle.ground.proofs.Fills.{filled_to}
 use Rattle.replay.proofs.filling.fill_with.Given as goal
 
 abbrev pub invariant-loop-i : goal.invariant-loop-i

@@ -1,5 +1,4 @@
 -- Each way is a line of the definition.
-use borrow.Author.Rules.{rules}
 use Rattle.replay.proofs.refusing.refuse_unless.Goals as goal
 
 pub returns-else-ok : goal.returns-else-ok

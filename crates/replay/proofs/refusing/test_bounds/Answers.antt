@@ -1,6 +1,5 @@
 -- The three tests in their order.
 use Rattle.ground.proofs.Numbers.{product_lt}
-use borrow.Author.Rules.{rules}
 use Rattle.replay.proofs.refusing.test_bounds.Goals as goal
 
 pub overflow_mul-size : goal.overflow_mul-size

@@ -1,6 +1,5 @@
 -- The first test that refuses, or the check of the code.
 use Rattle.replay.proofs.Entering.{stops, goes_on}
-use borrow.Author.Rules.{rules}
 use Rattle.replay.proofs.refusing.test_launch.Goals as goal
 
 pub returns-in-Refused : goal.returns-in-Refused

@@ -1,6 +1,5 @@
 -- The first test that refuses, or whether the state fits.
 use Rattle.replay.proofs.Entering.{stops, goes_on}
-use borrow.Author.Rules.{rules}
 use Rattle.replay.proofs.refusing.test_resume.Goals as goal
 
 pub returns-in-Refused : goal.returns-in-Refused

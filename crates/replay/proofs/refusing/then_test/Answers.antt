@@ -1,5 +1,4 @@
 -- Each arm is a line of the definition.
-use borrow.Author.Rules.{rules}
 use Rattle.replay.proofs.refusing.then_test.Goals as goal
 
 pub returns-in-Refused : goal.returns-in-Refused

@@ -1,12 +1,9 @@
 -- What is left to do from the machine that the loop has reached is the run, and the buffers keep their lengths.
 use native.Mathlib.Omega.{arith}
 use mathlib.Core.Path.{sym, ◌∙◌}
-use Prim.Native.Nat.{◌-◌}
-use borrow.Author.Rules.{rules}
-use borrow.Author.Tests.{not-true, not-false}
-use Rattle.stepping.specs.Machine.{Machine, machine_of}
-use Rattle.stepping.specs.Step.{Stepped, stepped}
-use Rattle.stepping.proofs.Turns.{Going, Turn, start, ends, spends, below, still_long, faults, goes}
+use Rattle.stepping.specs.Machine.{machine_of}
+use Rattle.stepping.specs.Step.{stepped}
+use Rattle.stepping.proofs.Turns.{Turn, start, ends, spends, below, still_long, faults, goes}
 use Rattle.stepping.proofs.run.go.Goals as goal
 
 pub loop-settings-init : goal.loop-settings-init

@@ -1,5 +1,4 @@
 -- The two tests as the definition has them.
-use borrow.Author.Rules.{rules}
 use Rattle.stepping.proofs.run.has_ended.Goals as goal
 
 pub returns : goal.returns

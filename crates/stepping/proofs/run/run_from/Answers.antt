@@ -1,6 +1,5 @@
 -- What the loop leaves, made tidy, is the answer of the run.
 use Rattle.stepping.proofs.Ending.{ends_tidy}
-use borrow.Author.Rules.{rules}
 use Rattle.stepping.proofs.run.run_from.Goals as goal
 
 pub returns : goal.returns

@@ -2,7 +2,6 @@
 use Rattle.compute.specs.Operands.{lent}
 use Rattle.compute.specs.Carrying.{carried}
 use Rattle.stepping.proofs.Stepping.{Worked, ordinary_on, ordinary_off}
-use borrow.Author.Rules.{rules}
 use Rattle.stepping.proofs.step.ordinary.Goals as goal
 
 pub returns-then-is_clear : goal.returns-then-is_clear

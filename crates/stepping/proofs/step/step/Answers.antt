@@ -1,7 +1,6 @@
 -- A control instruction goes by its rule, any other by the lanes' work.
 use mathlib.Core.Path.{◌∙◌}
 use Rattle.stepping.proofs.Stepping.{Looked, step_control, step_ordinary}
-use borrow.Author.Rules.{rules}
 use Rattle.stepping.proofs.step.step.Goals as goal
 
 pub returns-in-Control : goal.returns-in-Control

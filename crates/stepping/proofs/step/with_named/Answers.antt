@@ -1,6 +1,5 @@
 -- Each predicate by its own number; another number changes none.
 use mathlib.Core.Path.{ap, ◌∙◌}
-use borrow.Author.Rules.{rules}
 use Rattle.wave.specs.Wave.{preds_of}
 use Rattle.stepping.specs.Machine.{preds, hot_with}
 use Rattle.stepping.proofs.Naming.{named_each}
