@@ -1,9 +1,17 @@
 // Input read whole and output written whole, for the programs. What fails is one line on standard error, which begins with the file's name.
 #![tactic(auto)]
 
-ghost use Rattle.files.specs.Within.{Within};
+ghost use Rattle.files.specs.Within.{Within, IsTakenFrom, HoldsWhatWasRead};
+ghost use Rattle.std.specs.Prelude.{IfOk, IsTrue};
+ghost use Rattle.std.specs.Io.{ReadsAtMost};
+ghost use Rattle.std.specs.Io.KnownBytes.{Appends};
 
-use libc::STDERR_FILENO;
+use std::env::FillError;
+use std::io::{Error, ErrorKind, Read, Result, Write};
+use std::rt::Env;
+
+// Room for any path: the system takes none that is longer.
+pub const PATH_ROOM: usize = 4096;
 
 // How many bytes were read; or that reading failed.
 #[derive(Clone, Copy)]
@@ -12,38 +20,62 @@ pub enum Input {
     Failed,
 }
 
-// Whether the input has ended. Where it has not, a read failed before its end: says so.
-fn has_ended(name: &[u8], fd: i32) -> bool {
-    let mut one = [0u8; 1];
-    let got = libc::read(fd, &mut one);
-    if got < 0 {
-        os::fail(name);
+// Says that something failed with the file of this name, and why.
+pub fn fail(rt: &impl Eprint, name: &str, error: &Error) {
+    let _ = eprintln!(rt; "{name}: {error}");
+}
+
+// The argument of this number, which `room` holds; none where there are fewer.
+pub fn argument<'a>(rt: &impl Env, i: usize, room: &'a mut [u8]) -> Result<Option<&'a str>> {
+    match rt.arg(i, room) {
+        Ok(n) => match str::from_utf8(&room[..n]) {
+            Ok(text) => Ok(Some(text)),
+            Err(_) => Err(Error::from(ErrorKind::InvalidFilename)),
+        },
+        Err(FillError::NotPresent) => Ok(None),
+        Err(FillError::TooLong) => Err(Error::from(ErrorKind::InvalidFilename)),
     }
-    if got > 0 {
-        io::write_all(STDERR_FILENO, name);
-        io::write_all(STDERR_FILENO, b": read only in part\n");
+}
+
+// Reads up to the input's end, or until the room is full, and answers how many bytes.
+fn read_full<R: Read>(input: &mut R, room: &mut [u8]) -> Result<usize>
+    ensures within { ReadsAtMost result room.new }
+    ensures taken { IfOk result (λ n. IsTakenFrom (R.remaining input.old) (R.remaining input.new) n room.new) }
+{
+    let mut size = 0;
+    while size < room.len() {
+        let more = input.read(&mut room[size..])?;
+        if more == 0 {
+            return Ok(size);
+        }
+        size += more;
     }
-    got == 0
+    Ok(size)
 }
 
 // Reads into `room` up to the input's end, or until the room is full.
-pub fn read_whole(name: &[u8], fd: i32, room: &mut [u8]) -> Input
-    ensures { Within result room.new }
+pub fn read_whole<R: Read>(rt: &impl Eprint, name: &str, input: &mut R, room: &mut [u8]) -> Input
+    ensures within { Within result room.new }
+    ensures taken { HoldsWhatWasRead result (R.remaining input.old) (R.remaining input.new) room.new }
 {
-    let size = io::read_full(fd, room);
-    if size < room.len() {
-        if !has_ended(name, fd) {
-            return Input::Failed;
+    match read_full(input, room) {
+        Ok(size) => Input::Read(size),
+        Err(error) => {
+            fail(rt, name, &error);
+            Input::Failed
         }
     }
-    Input::Read(size)
 }
 
 // Writes all bytes, and answers whether that went well.
-pub fn write_whole(name: &[u8], fd: i32, bytes: &[u8]) -> bool {
-    let written = io::write_all(fd, bytes);
-    if !written {
-        os::fail(name);
+pub fn write_whole<W: Write>(rt: &impl Eprint, name: &str, output: &mut W, bytes: &[u8]) -> bool
+    ensures { IsTrue result → Appends (W.contents output.old) (W.contents output.new) bytes.now }
+{
+    match output.write_all(bytes) {
+        Ok(()) => true,
+        Err(error) => {
+            fail(rt, name, &error);
+            false
+        }
     }
-    written
 }

@@ -2,38 +2,41 @@
 // on standard error.
 #![tactic(auto)]
 
-use files::{Input, read_whole, write_whole};
-use libc::{STDIN_FILENO, STDOUT_FILENO};
+use files::{Input, PATH_ROOM, argument, fail, read_whole, write_whole};
+use std::fs;
+use std::io::{Read, writer};
+use std::rt::Files;
 
 // Lists a file.
-fn list_of(file: &[u8]) {
+fn list_of(rt: &(impl Print + Eprint), file: &[u8]) {
     let mut text = [0u8; listing::TEXT_ROOM];
     let k = listing::list(file, &mut text);
     if k <= listing::TEXT_ROOM {
-        write_whole(b"standard output", STDOUT_FILENO, &text[..k]);
+        write_whole(rt, "standard output", &mut writer(rt), &text[..k]);
     }
 }
 
 // Lists what can be read. One byte more than the largest file is read, so that a longer one shows.
-fn list_from(name: &[u8], fd: i32) {
+fn list_from<R: Read>(rt: &(impl Print + Eprint), name: &str, input: &mut R) {
     let mut file = [0u8; listing::MOST_BYTES + 1];
-    if let Input::Read(n) = read_whole(name, fd, &mut file) {
-        list_of(&file[..n]);
+    if let Input::Read(n) = read_whole(rt, name, input, &mut file) {
+        list_of(rt, &file[..n]);
     }
 }
 
-fn main() {
-    if os::arg_count() < 2 {
-        list_from(b"standard input", STDIN_FILENO);
-        return;
+// Lists the file of this name.
+fn list_file(rt: &(impl Files + Print + Eprint), path: &str) {
+    match fs::open(rt, path) {
+        Ok(mut file) => list_from(rt, path, &mut file),
+        Err(error) => fail(rt, path, &error),
     }
-    let mut path = io::buffer();
-    let n = os::arg(1, &mut path);
-    let fd = os::open_read(&path[..n]);
-    if fd < 0 {
-        os::fail(&path[..n]);
-        return;
+}
+
+fn main(rt: HostRuntime) {
+    let mut room = [0u8; PATH_ROOM];
+    match argument(&rt, 1, &mut room) {
+        Ok(None) => list_from(&rt, "standard input", &mut rt.stdin()),
+        Ok(Some(path)) => list_file(&rt, path),
+        Err(error) => fail(&rt, "argument 1", &error),
     }
-    list_from(&path[..n], fd);
-    libc::close(fd);
 }

@@ -8,20 +8,18 @@ ghost use Rattle.dayfile.specs.Day.{most_bytes, longest_file};
 
 use dayfile::answer::MakeAnswer;
 use dayfile::{LONGEST_FILE, MOST_BYTES};
-use files::{Input, read_whole, write_whole};
-use libc::{STDERR_FILENO, STDIN_FILENO, STDOUT_FILENO};
+use files::{Input, PATH_ROOM, argument, fail, read_whole, write_whole};
+use std::fs;
+use std::io::{Read, writer};
+use std::rt::Files;
 
 // One byte more than 1,024 of the longest bodies have. So bytes that are not read change no answer: a 1,025th body is refused before it
 // is looked at.
 const BODIES_ROOM: usize = MOST_BYTES + 1;
 
 // Says which rule the bodies break, and where.
-fn refuse(number: u32, place: usize) {
-    io::write_all(STDERR_FILENO, b"refused ");
-    io::print_decimal(STDERR_FILENO, number as u64);
-    io::write_all(STDERR_FILENO, b" at ");
-    io::print_decimal(STDERR_FILENO, place as u64);
-    io::write_all(STDERR_FILENO, b"\n");
+fn refuse(rt: &impl Eprint, number: u32, place: usize) {
+    let _ = eprintln!(rt; "refused {number} at {place}");
 }
 
 // Room for the bodies, and for the file. Each `ensures` gives only the length, which lending the array as a slice needs.
@@ -38,38 +36,39 @@ fn file_room() -> [u8; LONGEST_FILE]
 }
 
 // Makes the file of these bodies, and writes it.
-fn make_of(bodies: &[u8]) {
+fn make_of(rt: &(impl Print + Eprint), bodies: &[u8]) {
     let mut file = file_room();
     match dayfile::make(bodies, &mut file) {
         MakeAnswer::Made(k) => {
             if k <= LONGEST_FILE {
-                write_whole(b"standard output", STDOUT_FILENO, &file[..k]);
+                write_whole(rt, "standard output", &mut writer(rt), &file[..k]);
             }
         }
-        MakeAnswer::Refused(refusal) => refuse(refusal.number, refusal.place),
+        MakeAnswer::Refused(refusal) => refuse(rt, refusal.number, refusal.place),
     }
 }
 
 // Makes the file of what can be read.
-fn make_from(name: &[u8], fd: i32) {
+fn make_from<R: Read>(rt: &(impl Print + Eprint), name: &str, input: &mut R) {
     let mut bodies = bodies_room();
-    if let Input::Read(n) = read_whole(name, fd, &mut bodies) {
-        make_of(&bodies[..n]);
+    if let Input::Read(n) = read_whole(rt, name, input, &mut bodies) {
+        make_of(rt, &bodies[..n]);
     }
 }
 
-fn main() {
-    if os::arg_count() < 2 {
-        make_from(b"standard input", STDIN_FILENO);
-        return;
+// Makes the file of the bodies in the file of this name.
+fn make_file(rt: &(impl Files + Print + Eprint), path: &str) {
+    match fs::open(rt, path) {
+        Ok(mut file) => make_from(rt, path, &mut file),
+        Err(error) => fail(rt, path, &error),
     }
-    let mut path = io::buffer();
-    let n = os::arg(1, &mut path);
-    let fd = os::open_read(&path[..n]);
-    if fd < 0 {
-        os::fail(&path[..n]);
-        return;
+}
+
+fn main(rt: HostRuntime) {
+    let mut room = [0u8; PATH_ROOM];
+    match argument(&rt, 1, &mut room) {
+        Ok(None) => make_from(&rt, "standard input", &mut rt.stdin()),
+        Ok(Some(path)) => make_file(&rt, path),
+        Err(error) => fail(&rt, "argument 1", &error),
     }
-    make_from(&path[..n], fd);
-    libc::close(fd);
 }

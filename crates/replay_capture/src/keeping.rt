@@ -1,7 +1,9 @@
 // What is kept of a replay: the end state as a capture, and a fault's body, each under the name that an argument gives.
 use crate::saving::save;
 use captures::answer::{Head, WriteAnswer};
+use files::{PATH_ROOM, argument};
 use packing::{word_count, words_of};
+use std::rt::{Env, Files};
 use stepping::answers::{Outcome, Replayed};
 
 // Where the names of the files to write stand among the arguments.
@@ -10,11 +12,14 @@ const OUT: usize = 2;
 pub(crate) const KEY: usize = 3;
 
 // Writes a file of these bytes under the name that argument i gives, where there is one.
-pub(crate) fn save_as(i: usize, bytes: &[u8]) {
-    if i < os::arg_count() {
-        let mut path = io::buffer();
-        let n = os::arg(i, &mut path);
-        save(&path[..n], bytes);
+pub(crate) fn save_as(rt: &(impl Env + Files + Eprint), i: usize, bytes: &[u8]) {
+    let mut room = [0u8; PATH_ROOM];
+    match argument(rt, i, &mut room) {
+        Ok(Some(path)) => save(rt, path, bytes),
+        Ok(None) => {}
+        Err(error) => {
+            let _ = eprintln!(rt; "argument {i}: {error}");
+        }
     }
 }
 
@@ -30,6 +35,7 @@ fn is_refused(outcome: Outcome) -> bool {
 
 // Writes the capture of these words, made in `file`.
 fn keep_words(
+    rt: &(impl Env + Files + Eprint),
     head: Head,
     code: &[u32],
     regs: &[u32],
@@ -41,13 +47,14 @@ fn keep_words(
     let written = captures::write(head, code, regs, device, local, state, file);
     if let WriteAnswer::Wrote(n) = written {
         if n <= file.len() {
-            save_as(OUT, &file[..n]);
+            save_as(rt, OUT, &file[..n]);
         }
     }
 }
 
 // Writes the end state as a capture, with the same settings and code. A refused run writes none.
 pub(crate) fn keep_state(
+    rt: &(impl Env + Files + Eprint),
     head: Head,
     answer: Replayed,
     code: &[u32],
@@ -63,5 +70,5 @@ pub(crate) fn keep_state(
     let state = answer.state;
     let words = words_of(state);
     let n = word_count(state.hot.depth);
-    keep_words(head, code, regs, device, local, &words[..n], file);
+    keep_words(rt, head, code, regs, device, local, &words[..n], file);
 }

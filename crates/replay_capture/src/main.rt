@@ -13,47 +13,46 @@ mod saving;
 mod telling;
 mod text;
 
-use libc::STDERR_FILENO;
+use files::{PATH_ROOM, argument, fail};
 use opening::replay_file;
+use std::env::FillError;
+use std::rt::Env;
 
 // Where the word that asks for slices stands among the arguments.
 const SLICES: usize = 4;
 
-// Whether a word is `slices`.
-fn is_slices(word: &[u8]) -> bool {
-    if word.len() != 6 {
-        return false;
+// Whether there is an argument of this number: a buffer without room tells that from one that doesn't fit.
+fn is_given(rt: &impl Env, i: usize) -> bool {
+    match rt.arg(i, &mut []) {
+        Err(FillError::NotPresent) => false,
+        _ => true,
     }
-    (word[0] == b's')
-        & (word[1] == b'l')
-        & (word[2] == b'i')
-        & (word[3] == b'c')
-        & (word[4] == b'e')
-        & (word[5] == b's')
 }
 
 // Whether argument 4, where there is one, asks for slices.
-fn asks_slices() -> bool {
-    let mut word = io::buffer();
-    let n = os::arg(SLICES, &mut word);
-    is_slices(&word[..n])
+fn asks_slices(rt: &impl Env) -> bool {
+    let mut word = [0u8; PATH_ROOM];
+    match argument(rt, SLICES, &mut word) {
+        Ok(Some(word)) => word == "slices",
+        _ => false,
+    }
 }
 
 // Whether the arguments are as many as the program takes, and the fourth is the word `slices`.
-fn is_called_well(given: usize, sliced: bool) -> bool {
-    (2 <= given) & ((given <= SLICES) | ((given == SLICES + 1) & sliced))
+fn is_called_well(rt: &impl Env, sliced: bool) -> bool {
+    is_given(rt, 1) && (!is_given(rt, SLICES) || (sliced && !is_given(rt, SLICES + 1)))
 }
 
-fn main() {
-    let sliced = asks_slices();
-    if !is_called_well(os::arg_count(), sliced) {
-        io::write_all(
-            STDERR_FILENO,
-            b"expected: replay_capture CAPTURE [OUT] [KEY] [slices]\n",
-        );
+fn main(rt: HostRuntime) {
+    let sliced = asks_slices(&rt);
+    if !is_called_well(&rt, sliced) {
+        let _ = eprintln!(rt; "expected: replay_capture CAPTURE [OUT] [KEY] [slices]");
         return;
     }
-    let mut path = io::buffer();
-    let n = os::arg(1, &mut path);
-    replay_file(&path[..n], sliced);
+    let mut room = [0u8; PATH_ROOM];
+    match argument(&rt, 1, &mut room) {
+        Ok(Some(path)) => replay_file(&rt, path, sliced),
+        Ok(None) => {}
+        Err(error) => fail(&rt, "argument 1", &error),
+    }
 }

@@ -6,11 +6,12 @@ use crate::telling::say_unreadable;
 use crate::text::write_front;
 use body::LONGEST;
 use captures::answer::{Head, ReadAnswer};
+use files::fail;
 use key::answer::KeyAnswer;
 use key::write_key;
-use libc::STDOUT_FILENO;
 use numbers::smaller;
 use packing::state_of;
+use std::io::writer;
 use stepping::answers::Replayed;
 use stepping::settings::Settings;
 
@@ -18,44 +19,45 @@ use stepping::settings::Settings;
 const REPORT_ROOM: usize = 8192;
 
 // Writes the first n bytes of a report to standard output.
-fn tell_text(report: &[u8], n: usize) {
-    if !write_front(STDOUT_FILENO, report, n) {
-        os::fail(b"standard output");
+fn tell_text(rt: &(impl Print + Eprint), report: &[u8], n: usize) {
+    if let Err(error) = write_front(&mut writer(rt), report, n) {
+        fail(rt, "standard output", &error);
     }
 }
 
 // Tells of a fault: its body goes to its file, then the report to standard output.
-fn tell_fault(answer: Replayed, code: &[u32], body: &[u8]) {
-    save_as(KEY, body);
+fn tell_fault(rt: &HostRuntime, answer: Replayed, code: &[u32], body: &[u8]) {
+    save_as(rt, KEY, body);
     let mut report = [0u8; REPORT_ROOM];
     let q = put_report(&mut report, answer, code);
     let n = put_key(&mut report, q, body);
-    tell_text(&report, n);
+    tell_text(rt, &report, n);
 }
 
 // Tells of a run that gives no key.
-fn tell_end(answer: Replayed, code: &[u32]) {
+fn tell_end(rt: &(impl Print + Eprint), answer: Replayed, code: &[u32]) {
     let mut report = [0u8; REPORT_ROOM];
     let n = put_report(&mut report, answer, code);
-    tell_text(&report, n);
+    tell_text(rt, &report, n);
 }
 
 // Tells of what a replay answered; only a fault has a key.
-fn tell(kernel: u32, answer: Replayed, code: &[u32]) {
+fn tell(rt: &HostRuntime, kernel: u32, answer: Replayed, code: &[u32]) {
     let mut body = [0u8; LONGEST];
     let written = write_key(kernel, answer, &mut body);
     match written {
         KeyAnswer::Wrote(n) => {
             if n <= LONGEST {
-                tell_fault(answer, code, &body[..n]);
+                tell_fault(rt, answer, code, &body[..n]);
             }
         }
-        KeyAnswer::Refused(_) => tell_end(answer, code),
+        KeyAnswer::Refused(_) => tell_end(rt, answer, code),
     }
 }
 
 // Replays a capture's words: what is kept of it, then the report, so that a reader who stops reading loses no file.
 fn replay_words(
+    rt: &HostRuntime,
     head: Head,
     sliced: bool,
     code: &[u32],
@@ -73,6 +75,7 @@ fn replay_words(
     };
     let launched = state.len() == 0;
     let answer = run(
+        rt,
         settings,
         launched,
         state_of(state),
@@ -84,13 +87,14 @@ fn replay_words(
         local,
         file,
     );
-    keep_state(head, answer, code, regs, device, local, file);
-    tell(head.kernel, answer, code);
+    keep_state(rt, head, answer, code, regs, device, local, file);
+    tell(rt, head.kernel, answer, code);
 }
 
 // Replays what was read of a capture, the words that it has of each buffer's; or says what it breaks that is none.
 pub(crate) fn replay_read(
-    path: &[u8],
+    rt: &HostRuntime,
+    path: &str,
     sliced: bool,
     read: ReadAnswer,
     code: &[u32],
@@ -101,7 +105,7 @@ pub(crate) fn replay_read(
     file: &mut [u8],
 ) {
     match read {
-        ReadAnswer::Unreadable { rule, place } => say_unreadable(path, rule, place),
+        ReadAnswer::Unreadable { rule, place } => say_unreadable(rt, path, rule, place),
         ReadAnswer::Read { head, counts } => {
             let c = smaller(counts.code, code.len());
             let r = smaller(counts.registers, regs.len());
@@ -109,6 +113,7 @@ pub(crate) fn replay_read(
             let l = smaller(counts.local, local.len());
             let s = smaller(counts.state, state.len());
             replay_words(
+                rt,
                 head,
                 sliced,
                 &code[..c],

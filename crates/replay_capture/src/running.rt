@@ -7,9 +7,7 @@ ghost use Rattle.runs.specs.Calls.{budgeted as with_budget, added};
 ghost use Rattle.runs.specs.Starting.{start_of, stopped};
 
 use crate::keeping::keep_state;
-use crate::text::{put_number, write_front};
 use captures::answer::Head;
-use libc::STDERR_FILENO;
 use replay::allowed::MOST_STEPS;
 use replay::doors::{launch, resume};
 use stepping::answers::{Outcome, Replayed};
@@ -53,10 +51,8 @@ fn budgeted(settings: Settings, budget: u32) -> Settings
 }
 
 // A line of how many steps the run has made.
-fn say_steps(steps: u32) {
-    let mut line = [0u8; 32];
-    let n = put_number(&mut line, 0, b"steps ", steps as usize);
-    write_front(STDERR_FILENO, &line, n);
+fn say_steps(rt: &impl Eprint, steps: u32) {
+    let _ = eprintln!(rt; "steps {steps}");
 }
 
 // Launches, or goes on with the state.
@@ -102,6 +98,7 @@ fn go_further(
 // The run of a capture in slices, each from the state that the one before returned. After each but the last the state is kept, so that
 // no more than a slice can be lost, and a line says how far it is.
 fn run_in_slices(
+    rt: &HostRuntime,
     settings: Settings,
     launched: bool,
     state: State,
@@ -132,8 +129,8 @@ fn run_in_slices(
         if !is_stopped(outcome) {
             break;
         }
-        keep_state(head, answer, code, regs, device, local, file);
-        say_steps(answer.steps);
+        keep_state(rt, head, answer, code, regs, device, local, file);
+        say_steps(rt, answer.steps);
         let next = slice_of(left, SLICE);
         answer = go_further(budgeted(settings, next), answer, code, regs, device, local);
         left -= next;
@@ -143,6 +140,7 @@ fn run_in_slices(
 
 // The run of a capture, in slices or in one call. A budget that is refused goes in one call.
 pub(crate) fn run(
+    rt: &HostRuntime,
     settings: Settings,
     launched: bool,
     state: State,
@@ -160,7 +158,7 @@ pub(crate) fn run(
     let slices = sliced & (settings.budget <= MOST_STEPS);
     if slices {
         return run_in_slices(
-            settings, launched, state, head, code, regs, device, local, file,
+            rt, settings, launched, state, head, code, regs, device, local, file,
         );
     }
     start(settings, launched, state, code, regs, device, local)

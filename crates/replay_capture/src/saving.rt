@@ -1,50 +1,60 @@
 // Files written beside their place and renamed, so that an error leaves an earlier file as it was.
-use io::buffer;
+use files::{PATH_ROOM, fail};
 use numbers::put_bytes;
+use std::fs;
+use std::fs::OpenFile;
+use std::io::{Error, ErrorKind, Result, Write};
+use std::rt::Files;
 
-// A path has fewer bytes than this; what is added to one for the file beside it.
-const PATH_ROOM: usize = 4096;
-
+// How many bytes are added to a path for the file beside it.
 const ADDED: usize = 4;
 
 // Says what went wrong with the file, and takes away the one beside it.
-fn give_up(path: &[u8], beside: &[u8]) {
-    os::fail(path);
-    os::unlink(beside);
+fn give_up(rt: &(impl Files + Eprint), path: &str, beside: &str, error: &Error) {
+    fail(rt, path, error);
+    let _ = fs::remove_file(rt, beside);
+}
+
+// Writes bytes to a file, and closes it. What the system would keep back goes to the disk first, since closing tells of no error.
+fn write_out<F: Write + OpenFile + Drop>(mut file: F, bytes: &[u8]) -> Result<()> {
+    file.write_all(bytes)?;
+    file.sync_all()
 }
 
 // Writes bytes to a new file `beside`, and renames it to `path`.
-fn write_beside(path: &[u8], beside: &[u8], bytes: &[u8]) {
-    let fd = os::open_overwrite(beside);
-    if fd < 0 {
-        os::fail(path);
+fn write_beside(rt: &(impl Files + Eprint), path: &str, beside: &str, bytes: &[u8]) {
+    let file = match fs::create(rt, beside) {
+        Ok(file) => file,
+        Err(error) => {
+            fail(rt, path, &error);
+            return;
+        }
+    };
+    if let Err(error) = write_out(file, bytes) {
+        give_up(rt, path, beside, &error);
         return;
     }
-    let written = io::write_all(fd, bytes);
-    let closed = libc::close(fd);
-    if !written {
-        give_up(path, beside);
-        return;
-    }
-    if closed < 0 {
-        give_up(path, beside);
-        return;
-    }
-    if os::rename(beside, path) < 0 {
-        give_up(path, beside);
+    if let Err(error) = fs::rename(rt, beside, path) {
+        give_up(rt, path, beside, &error);
     }
 }
 
-// Writes a file of these bytes. The file beside it has the name with `.new` behind.
-pub(crate) fn save(path: &[u8], bytes: &[u8]) {
-    let mut beside = buffer();
+// The path with `.new` behind, which `room` holds; none where that is no path for its length.
+fn name_beside<'a>(path: &str, room: &'a mut [u8; PATH_ROOM]) -> Option<&'a str> {
     let named = path.len();
-    put_bytes(&mut beside, 0, path);
-    put_bytes(&mut beside, named, b".new");
-    if named < PATH_ROOM - ADDED {
-        write_beside(path, &beside[..named + ADDED], bytes);
-    } else {
-        os::open_overwrite(path);
-        os::fail(path);
+    if PATH_ROOM - ADDED <= named {
+        return None;
+    }
+    put_bytes(room, 0, path.as_bytes());
+    put_bytes(room, named, b".new");
+    str::from_utf8(&room[..named + ADDED]).ok()
+}
+
+// Writes a file of these bytes. The file beside it has the name with `.new` behind.
+pub(crate) fn save(rt: &(impl Files + Eprint), path: &str, bytes: &[u8]) {
+    let mut room = [0u8; PATH_ROOM];
+    match name_beside(path, &mut room) {
+        Some(beside) => write_beside(rt, path, beside, bytes),
+        None => fail(rt, path, &Error::from(ErrorKind::InvalidFilename)),
     }
 }

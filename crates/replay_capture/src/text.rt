@@ -1,5 +1,6 @@
 // Text put into a lent buffer, as far as it fits. Each function answers the place behind what it put.
 use numbers::put_bytes;
+use std::io::{Error, ErrorKind, Result, Write};
 use std::num::wrapping_add_usize;
 
 // Puts text at `at`.
@@ -22,11 +23,10 @@ pub(crate) fn put_number(out: &mut [u8], at: usize, word: &[u8], n: usize) -> us
     put(out, q, b"\n")
 }
 
-// Writes the first n bytes of a buffer, and answers whether that went well. They go in one call where the system takes them so, and
-// lines of two programs don't mix.
-pub(crate) fn write_front(fd: i32, text: &[u8], n: usize) -> bool {
+// Writes the first n bytes of a buffer. They go in one call where the system takes them so, and lines of two programs don't mix.
+pub(crate) fn write_front<W: Write>(output: &mut W, text: &[u8], n: usize) -> Result<()> {
     if text.len() < n {
-        return false;
+        return Err(Error::from(ErrorKind::WriteZero));
     }
-    io::write_all(fd, &text[..n])
+    output.write_all(&text[..n])
 }
