@@ -1,5 +1,5 @@
 -- A state's words that count are some of its words.
-use Rattle.std.proofs.Common.{length, sym, ap, arith, length-take-le, rules}
+use Rattle.std.proofs.Common.{length, sym, ap, arith, length-take-le}
 use Rattle.packing.specs.Words.{word_count, words_of}
 use Rattle.replay_capture.proofs.keeping.keep_state.Goals as goal
 

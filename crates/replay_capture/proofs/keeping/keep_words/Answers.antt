@@ -1,5 +1,5 @@
 -- What was written is part of the file's room.
-use Rattle.std.proofs.Common.{sym, length-take-le, rules}
+use Rattle.std.proofs.Common.{sym, length-take-le}
 use Rattle.replay_capture.proofs.keeping.keep_words.Goals as goal
 
 pub slice_bounds-save_as-end-then-n-file : goal.slice_bounds-save_as-end-then-n-file

@@ -1,5 +1,5 @@
 -- The file's bytes are part of its room.
-use Rattle.std.proofs.Common.{sym, arith, length-take-le, rules}
+use Rattle.std.proofs.Common.{sym, arith, length-take-le}
 use Rattle.replay_capture.proofs.opening.replay_in.Goals as goal
 
 pub slice_bounds-read-end-2 : goal.slice_bounds-read-end-2

@@ -1,5 +1,5 @@
 -- No more words than each buffer has.
-use Rattle.std.proofs.Common.{sym, arith, length-take-le, rules}
+use Rattle.std.proofs.Common.{sym, arith, length-take-le}
 use Rattle.replay_capture.proofs.replaying.replay_read.Goals as goal
 
 pub slice_bounds-replay_words-end : goal.slice_bounds-replay_words-end

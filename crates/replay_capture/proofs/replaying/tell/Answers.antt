@@ -1,5 +1,5 @@
 -- The body's length is at most the room's.
-use Rattle.std.proofs.Common.{◌≡◌, length, sym, arith, length-take-le, rules}
+use Rattle.std.proofs.Common.{◌≡◌, length, sym, arith, length-take-le}
 use Rattle.body.specs.Layout.{longest}
 use Rattle.replay_capture.proofs.replaying.tell.Goals as goal
 

@@ -1,5 +1,5 @@
 -- Each block's numbers stand in the array, and the buffer keeps its length.
-use Rattle.std.proofs.Common.{◌≡◌, ◌-◌, ◌≤◌, length, refl, arith, rules}
+use Rattle.std.proofs.Common.{◌≡◌, ◌-◌, ◌≤◌, length}
 use Rattle.lanes.specs.Blocks.{nesting}
 use Rattle.wave.specs.Layout.{path_numbers}
 use Rattle.replay_capture.proofs.report.put_blocks.Given as goal

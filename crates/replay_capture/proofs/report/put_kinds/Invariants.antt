@@ -1,5 +1,5 @@
 -- The kinds are counted up to the last, and the buffer keeps its length.
-use Rattle.std.proofs.Common.{◌≡◌, ◌+◌, ◌-◌, ◌≤◌, length, rules}
+use Rattle.std.proofs.Common.{◌≡◌, ◌+◌, ◌-◌, ◌≤◌, length}
 use Rattle.faulting.specs.Kinds.{kinds}
 use Rattle.replay_capture.proofs.report.put_kinds.Given as goal
 

@@ -1,5 +1,5 @@
 -- The steps of both fit, since a run makes no more than its budget.
-use Rattle.std.proofs.Common.{ap, arith, rules}
+use Rattle.std.proofs.Common.{ap, arith}
 use Rattle.runs.specs.Calls.{added}
 use Rattle.runs.proofs.Slices.{resumed_most}
 use Rattle.replay_capture.proofs.running.go_further.Goals as goal

@@ -1,6 +1,5 @@
 -- By the cases of the outcome.
 use Rattle.runs.specs.Starting.{stopped}
-use Rattle.std.proofs.Common.{rules}
 use Rattle.replay_capture.proofs.running.is_stopped.Goals as goal
 
 pub returns-in-Ended : goal.returns-in-Ended

@@ -1,5 +1,5 @@
 -- A run goes in slices only where its budget is allowed.
-use Rattle.std.proofs.Common.{rules, leb-true}
+use Rattle.std.proofs.Common.{leb-true}
 use Rattle.ground.proofs.Bools.{and_right}
 use Rattle.replay_capture.proofs.running.run.Goals as goal
 

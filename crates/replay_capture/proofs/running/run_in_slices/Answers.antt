@@ -1,7 +1,7 @@
 -- At each turn what is left finishes the run.
-use Rattle.std.proofs.Common.{◌≡◌, ℕ, ◌-◌, length, sym, refl, ap, ◌∙◌, arith, rules}
+use Rattle.std.proofs.Common.{sym, refl, ap, ◌∙◌, arith, rules}
 use Rattle.stepping.specs.declared.settings.Settings.{Settings}
-use Rattle.runs.proofs.Slices.{Going, begun, gone_further, spent, over}
+use Rattle.runs.proofs.Slices.{begun, gone_further, spent, over}
 use Rattle.replay_capture.proofs.running.run_in_slices.Goals as goal
 
 pub loop-left-init : goal.loop-left-init

@@ -1,6 +1,5 @@
 -- By the test.
 use Rattle.runs.specs.Starting.{start_of}
-use Rattle.std.proofs.Common.{rules}
 use Rattle.replay_capture.proofs.running.start.Goals as goal
 
 pub returns-then-launched : goal.returns-then-launched
