@@ -1,6 +1,7 @@
 //! The program as it is called.
 
 use std::fs;
+use std::ops::Deref;
 use std::path::{Path, PathBuf};
 use std::process::{Command, Output};
 
@@ -16,12 +17,28 @@ fn sample(name: &str) -> String {
     folder.join(name).display().to_string()
 }
 
-/// An empty folder of this test's own.
-fn folder(test: &str) -> PathBuf {
+/// An empty folder of this test's own, which goes with the test: `rt ci` refuses a checkout with links in it, and some tests make one.
+struct Folder(PathBuf);
+
+impl Deref for Folder {
+    type Target = Path;
+
+    fn deref(&self) -> &Path {
+        &self.0
+    }
+}
+
+impl Drop for Folder {
+    fn drop(&mut self) {
+        let _ = fs::remove_dir_all(&self.0);
+    }
+}
+
+fn folder(test: &str) -> Folder {
     let path = Path::new(env!("CARGO_TARGET_TMPDIR")).join(test);
     let _ = fs::remove_dir_all(&path);
     fs::create_dir_all(&path).expect("a folder");
-    path
+    Folder(path)
 }
 
 #[test]
@@ -201,7 +218,7 @@ fn a_text_is_never_overwritten() {
         assert!(said.contains(target.as_str()));
     }
     assert_eq!(fs::read(&text).expect("the text"), shown);
-    assert_eq!(fs::read_dir(&folder).expect("the folder").count(), 3);
+    assert_eq!(fs::read_dir(&*folder).expect("the folder").count(), 3);
 }
 
 #[test]
@@ -235,7 +252,7 @@ fn only_a_regular_file_that_may_be_written_is_replaced() {
         .mode();
     assert_eq!(mode & 0o777, 0o640);
     assert_eq!(
-        fs::read_dir(&folder).expect("the folder").count(),
+        fs::read_dir(&*folder).expect("the folder").count(),
         5,
         "nothing is left beside"
     );
