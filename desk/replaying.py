@@ -46,6 +46,10 @@ def replay(words):
     return troubles[0].status if troubles else OUTCOMES[found.outcome]
 
 
+# The files of a run, by their names in its folder, in which it runs: a path of the folder's own could be one that no program takes.
+PARTS = ('capture', 'out', 'key')
+
+
 class Run:
     """A run of the proved program on a copy of the capture, in a folder of its own."""
 
@@ -61,21 +65,26 @@ class Run:
 
     def answer(self):
         """The report; Trouble where the program gave none, in its words and with the capture's own name."""
-        program = programs.proved('replay_capture', *(path(self.room, part) for part in ('capture', 'out', 'key')), *self.slices())
+        program = programs.proved('replay_capture', *PARTS, *self.slices())
         self.progress.begin()
         try:
-            ran = running.run(program, programs.environment(), told=self.told)
+            ran = running.run(program, programs.environment(), told=self.told, cwd=self.room)
         except Stopped:
             self.progress.clear()
             self.say_stopped()
             raise
         self.progress.clear()
-        said = ran.error.decode('utf-8', 'replace').replace(path(self.room, 'capture'), files.shown(self.name)).rstrip('\n')
+        said = self.named(ran.error.decode('utf-8', 'replace')).rstrip('\n')
         if ran.status != 0:
             raise Trouble(said or f'replay_capture {ran.ending()}')
         if said:
             raise Trouble(said)
         return report.parse(ran.out)
+
+    def named(self, said):
+        """What the program said, with the capture's own name, and with the whole path of the others."""
+        whole = {part: path(self.room, part) for part in PARTS} | {'capture': files.shown(self.name)}
+        return re.sub(r'^(\w+)(?=: )', lambda found: whole.get(found[0], found[0]), said, flags=re.MULTILINE)
 
     def slices(self):
         """The word that has the run go in slices, where it may take long and somebody watches, or its state is kept."""

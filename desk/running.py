@@ -86,9 +86,12 @@ def end(process):
         process.wait()
 
 
-def run(words, env=None, stdin=subprocess.DEVNULL, told=None):
-    """Runs a program to its end. `told` gets each line of its standard error as it comes, and says whether it is kept."""
-    with started(words, env=env, stdin=stdin, stdout=subprocess.PIPE, stderr=subprocess.PIPE) as process, process.stdout, process.stderr:
+def run(words, env=None, stdin=subprocess.DEVNULL, told=None, cwd=None):
+    """Runs a program to its end, in the folder `cwd` where one is given.
+
+    `told` gets each line of its standard error as it comes, and says whether it is kept.
+    """
+    with started(words, env=env, stdin=stdin, cwd=cwd, stdout=subprocess.PIPE, stderr=subprocess.PIPE) as process, process.stdout, process.stderr:
         out, error = collect(process, told or (lambda line: True))
         return Ran(process.wait(), out, error)
 

@@ -20,9 +20,12 @@ pub enum Input {
     Failed,
 }
 
-// Says that something failed with the file of this name, and why.
-pub fn fail(rt: &impl Eprint, name: &str, error: &Error) {
-    let _ = eprintln!(rt; "{name}: {error}");
+// Says that something failed with the file of this name, and why. A name that is no text is said as its bytes.
+pub fn fail(rt: &impl Eprint, name: &[u8], error: &Error) {
+    let _ = match str::from_utf8(name) {
+        Ok(text) => eprintln!(rt; "{text}: {error}"),
+        Err(_) => eprintln!(rt; "{name:?}: {error}"),
+    };
 }
 
 // The argument of this number, which `room` holds; none where there are fewer.
@@ -54,7 +57,7 @@ fn read_full<R: Read>(input: &mut R, room: &mut [u8]) -> Result<usize>
 }
 
 // Reads into `room` up to the input's end, or until the room is full.
-pub fn read_whole<R: Read>(rt: &impl Eprint, name: &str, input: &mut R, room: &mut [u8]) -> Input
+pub fn read_whole<R: Read>(rt: &impl Eprint, name: &[u8], input: &mut R, room: &mut [u8]) -> Input
     ensures within { Within result room.new }
     ensures taken { HoldsWhatWasRead result (R.remaining input.old) (R.remaining input.new) room.new }
 {
@@ -68,7 +71,7 @@ pub fn read_whole<R: Read>(rt: &impl Eprint, name: &str, input: &mut R, room: &m
 }
 
 // Writes all bytes, and answers whether that went well.
-pub fn write_whole<W: Write>(rt: &impl Eprint, name: &str, output: &mut W, bytes: &[u8]) -> bool
+pub fn write_whole<W: Write>(rt: &impl Eprint, name: &[u8], output: &mut W, bytes: &[u8]) -> bool
     ensures { IsTrue result → Appends (W.contents output.old) (W.contents output.new) bytes.now }
 {
     match output.write_all(bytes) {

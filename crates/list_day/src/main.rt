@@ -12,14 +12,14 @@ fn list_of(rt: &(impl Print + Eprint), file: &[u8]) {
     let mut text = [0u8; listing::TEXT_ROOM];
     let k = listing::list(file, &mut text);
     if k <= listing::TEXT_ROOM {
-        write_whole(rt, "standard output", &mut writer(rt), &text[..k]);
+        write_whole(rt, b"standard output", &mut writer(rt), &text[..k]);
     }
 }
 
 // Lists what can be read. One byte more than the largest file is read, so that a longer one shows.
 fn list_from<R: Read>(rt: &(impl Print + Eprint), name: &str, input: &mut R) {
     let mut file = [0u8; listing::MOST_BYTES + 1];
-    if let Input::Read(n) = read_whole(rt, name, input, &mut file) {
+    if let Input::Read(n) = read_whole(rt, name.as_bytes(), input, &mut file) {
         list_of(rt, &file[..n]);
     }
 }
@@ -28,7 +28,7 @@ fn list_from<R: Read>(rt: &(impl Print + Eprint), name: &str, input: &mut R) {
 fn list_file(rt: &(impl Files + Print + Eprint), path: &str) {
     match fs::open(rt, path) {
         Ok(mut file) => list_from(rt, path, &mut file),
-        Err(error) => fail(rt, path, &error),
+        Err(error) => fail(rt, path.as_bytes(), &error),
     }
 }
 
@@ -37,6 +37,6 @@ fn main(rt: HostRuntime) {
     match argument(&rt, 1, &mut room) {
         Ok(None) => list_from(&rt, "standard input", &mut rt.stdin()),
         Ok(Some(path)) => list_file(&rt, path),
-        Err(error) => fail(&rt, "argument 1", &error),
+        Err(error) => fail(&rt, b"argument 1", &error),
     }
 }

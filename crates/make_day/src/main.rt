@@ -41,7 +41,7 @@ fn make_of(rt: &(impl Print + Eprint), bodies: &[u8]) {
     match dayfile::make(bodies, &mut file) {
         MakeAnswer::Made(k) => {
             if k <= LONGEST_FILE {
-                write_whole(rt, "standard output", &mut writer(rt), &file[..k]);
+                write_whole(rt, b"standard output", &mut writer(rt), &file[..k]);
             }
         }
         MakeAnswer::Refused(refusal) => refuse(rt, refusal.number, refusal.place),
@@ -51,7 +51,7 @@ fn make_of(rt: &(impl Print + Eprint), bodies: &[u8]) {
 // Makes the file of what can be read.
 fn make_from<R: Read>(rt: &(impl Print + Eprint), name: &str, input: &mut R) {
     let mut bodies = bodies_room();
-    if let Input::Read(n) = read_whole(rt, name, input, &mut bodies) {
+    if let Input::Read(n) = read_whole(rt, name.as_bytes(), input, &mut bodies) {
         make_of(rt, &bodies[..n]);
     }
 }
@@ -60,7 +60,7 @@ fn make_from<R: Read>(rt: &(impl Print + Eprint), name: &str, input: &mut R) {
 fn make_file(rt: &(impl Files + Print + Eprint), path: &str) {
     match fs::open(rt, path) {
         Ok(mut file) => make_from(rt, path, &mut file),
-        Err(error) => fail(rt, path, &error),
+        Err(error) => fail(rt, path.as_bytes(), &error),
     }
 }
 
@@ -69,6 +69,6 @@ fn main(rt: HostRuntime) {
     match argument(&rt, 1, &mut room) {
         Ok(None) => make_from(&rt, "standard input", &mut rt.stdin()),
         Ok(Some(path)) => make_file(&rt, path),
-        Err(error) => fail(&rt, "argument 1", &error),
+        Err(error) => fail(&rt, b"argument 1", &error),
     }
 }

@@ -53,6 +53,6 @@ fn main(rt: HostRuntime) {
     match argument(&rt, 1, &mut room) {
         Ok(Some(path)) => replay_file(&rt, path, sliced),
         Ok(None) => {}
-        Err(error) => fail(&rt, "argument 1", &error),
+        Err(error) => fail(&rt, b"argument 1", &error),
     }
 }

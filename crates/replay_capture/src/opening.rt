@@ -94,7 +94,7 @@ fn read_on<R: Read>(
         return Input::Failed;
     }
     put_bytes(file, 0, before);
-    match read_whole(rt, path, input, &mut file[size..]) {
+    match read_whole(rt, path.as_bytes(), input, &mut file[size..]) {
         Input::Read(more) => Input::Read(wrapping_add_usize(size, more)),
         Input::Failed => Input::Failed,
     }
@@ -119,7 +119,7 @@ fn replay_on<R: Read>(
 // so that they stay a function of their own.
 fn replay_open<R: Read>(rt: &HostRuntime, path: &str, sliced: bool, input: &mut R) {
     let mut file = small_file();
-    if let Input::Read(size) = read_whole(rt, path, input, &mut file) {
+    if let Input::Read(size) = read_whole(rt, path.as_bytes(), input, &mut file) {
         if SMALL_DEVICE < get(&file, DEVICE_COUNT) as usize {
             replay_on(rt, path, sliced, input, &file, size);
         } else if SMALL_LOCAL < get(&file, LOCAL_COUNT) as usize {
@@ -134,6 +134,6 @@ fn replay_open<R: Read>(rt: &HostRuntime, path: &str, sliced: bool, input: &mut 
 pub(crate) fn replay_file(rt: &HostRuntime, path: &str, sliced: bool) {
     match fs::open(rt, path) {
         Ok(mut file) => replay_open(rt, path, sliced, &mut file),
-        Err(error) => fail(rt, path, &error),
+        Err(error) => fail(rt, path.as_bytes(), &error),
     }
 }

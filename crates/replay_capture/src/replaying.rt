@@ -21,7 +21,7 @@ const REPORT_ROOM: usize = 8192;
 // Writes the first n bytes of a report to standard output.
 fn tell_text(rt: &(impl Print + Eprint), report: &[u8], n: usize) {
     if let Err(error) = write_front(&mut writer(rt), report, n) {
-        fail(rt, "standard output", &error);
+        fail(rt, b"standard output", &error);
     }
 }
 

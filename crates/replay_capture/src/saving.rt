@@ -11,14 +11,24 @@ const ADDED: usize = 4;
 
 // Says what went wrong with the file, and takes away the one beside it.
 fn give_up(rt: &(impl Files + Eprint), path: &str, beside: &str, error: &Error) {
-    fail(rt, path, error);
+    fail(rt, path.as_bytes(), error);
     let _ = fs::remove_file(rt, beside);
 }
 
-// Writes bytes to a file, and closes it. What the system would keep back goes to the disk first, since closing tells of no error.
+// Writes bytes to a file, and closes it. What the system would keep back goes to the disk first, since closing tells of no error; a pipe or a
+// device, which has no disk, refuses that as invalid, and has the bytes.
 fn write_out<F: Write + OpenFile + Drop>(mut file: F, bytes: &[u8]) -> Result<()> {
     file.write_all(bytes)?;
-    file.sync_all()
+    match file.sync_all() {
+        Ok(()) => Ok(()),
+        Err(error) => {
+            if matches!(error.kind(), ErrorKind::InvalidInput) {
+                Ok(())
+            } else {
+                Err(error)
+            }
+        }
+    }
 }
 
 // Writes bytes to a new file `beside`, and renames it to `path`.
@@ -26,7 +36,7 @@ fn write_beside(rt: &(impl Files + Eprint), path: &str, beside: &str, bytes: &[u
     let file = match fs::create(rt, beside) {
         Ok(file) => file,
         Err(error) => {
-            fail(rt, path, &error);
+            fail(rt, path.as_bytes(), &error);
             return;
         }
     };
@@ -55,6 +65,10 @@ pub(crate) fn save(rt: &(impl Files + Eprint), path: &str, bytes: &[u8]) {
     let mut room = [0u8; PATH_ROOM];
     match name_beside(path, &mut room) {
         Some(beside) => write_beside(rt, path, beside, bytes),
-        None => fail(rt, path, &Error::from(ErrorKind::InvalidFilename)),
+        None => fail(
+            rt,
+            path.as_bytes(),
+            &Error::from(ErrorKind::InvalidFilename),
+        ),
     }
 }
