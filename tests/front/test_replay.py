@@ -1,5 +1,6 @@
 """llinosfar replay on the samples, on damaged and refused captures: what it prints, writes and answers."""
 import json
+import os
 import unittest
 
 from support import SAMPLES, InFolder, build, capture, front, sample, second
@@ -125,6 +126,14 @@ class Damaged(InFolder):
         ran = front('replay', self.file('bad.cap', b'WCAP'), '-f', '-o', out, '-k', key)
         self.assertEqual(1, ran.returncode)
         self.assertEqual((b'earlier', b'earlier'), (out.read_bytes(), key.read_bytes()))
+
+    def test_temporary_folder_of_any_name(self):
+        folder = os.fsencode(self.room) + b'/no text \xff'
+        os.mkdir(folder)
+        ran = front('replay', '--plain', sample('t14'), env={**os.environb, b'TMPDIR': folder})
+        self.assertEqual((10, b''), (ran.returncode, ran.stderr))
+        self.assertIn(b'\nplace 7\n', ran.stdout)
+        self.assertEqual([], os.listdir(folder))
 
     def test_name_with_a_newline(self):
         self.says(front('replay', self.room / 'a\nb'), 1, r'a\nb')
