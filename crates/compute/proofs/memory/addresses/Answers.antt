@@ -1,7 +1,6 @@
 -- `compute::memory::addresses` meets its contract: at turn i the lanes below i have their results.
-use Prim.Native.Nat.{ℕ, ◌<◌}
+use Prim.Native.Nat.{ℕ}
 use native.Mathlib.Omega.{arith}
-use lib.ListN.{length}
 use Rattle.arith.specs.Arith.{address_of}
 use Rattle.compute.proofs.Slots.{slot_in_lem}
 use Rattle.lanes.proofs.Filling.{filled_none, filled_all}
@@ -12,10 +11,10 @@ pub loop-i-init : goal.loop-i-init
 loop-i-init c = filled_none _ c.requires.narrow
 
 pub offset_bounds-regs-p : goal.offset_bounds-regs-p
-offset_bounds-regs-p c = let h = (let at_inside : c.slot-p.result < length c.args.regs.now = slot_in_lem c.requires _ _ c.slot-p.ensures (omega arith) in at_inside) in omega arith
+offset_bounds-regs-p c = omega (arith, slot_in_lem c.requires _ _ c.slot-p.ensures (omega arith))
 
 pub bounds-regs-p : goal.bounds-regs-p
-bounds-regs-p c = (let at_inside : c.slot-p.result < length c.args.regs.now = slot_in_lem c.requires _ _ c.slot-p.ensures (omega arith) in at_inside)
+bounds-regs-p c = slot_in_lem c.requires _ _ c.slot-p.ensures (omega arith)
 
 pub loop-i-preserved : goal.loop-i-preserved
 loop-i-preserved c =

@@ -1,7 +1,5 @@
 -- `compute::memory::store_lanes` meets its contract: at turn i the lanes below i have stored.
-use Prim.Native.Nat.{◌<◌}
 use native.Mathlib.Omega.{arith}
-use lib.ListN.{length}
 use Rattle.ground.proofs.Turns.{turned_none, turned_more, turned_all, length-turned}
 use Rattle.compute.specs.Memory.{changes_of}
 use Rattle.compute.proofs.Slots.{slot_in_lem}
@@ -17,10 +15,10 @@ pub bounds-at-k : goal.bounds-at-k
 bounds-at-k c = omega (arith, c.requires.narrow)
 
 pub offset_bounds-regs-p : goal.offset_bounds-regs-p
-offset_bounds-regs-p c = let h = (let at_inside : c.slot-p.result < length c.args.regs.now = slot_in_lem c.requires _ _ c.slot-p.ensures (omega arith) in at_inside) in omega arith
+offset_bounds-regs-p c = omega (arith, slot_in_lem c.requires _ _ c.slot-p.ensures (omega arith))
 
 pub bounds-regs-p : goal.bounds-regs-p
-bounds-regs-p c = (let at_inside : c.slot-p.result < length c.args.regs.now = slot_in_lem c.requires _ _ c.slot-p.ensures (omega arith) in at_inside)
+bounds-regs-p c = slot_in_lem c.requires _ _ c.slot-p.ensures (omega arith)
 
 pub picks-requires : goal.picks-requires
 picks-requires c = omega (arith, c.requires.narrow)

@@ -1,8 +1,8 @@
 -- `compute::registers::gather` meets its contract: at turn i the lanes below i have their registers.
 use mathlib.Core.Path.{ap}
-use Prim.Native.Nat.{ℕ, ◌<◌}
+use Prim.Native.Nat.{ℕ}
 use native.Mathlib.Omega.{arith}
-use lib.ListN.{length, get_or}
+use lib.ListN.{get_or}
 use Rattle.compute.specs.Registers.{gather_of}
 use Rattle.lanes.proofs.Filling.{filled_none, filled_more, filled_all}
 use Rattle.compute.proofs.Slots.{slot_in_lem}
@@ -12,10 +12,10 @@ pub loop-i-init : goal.loop-i-init
 loop-i-init c = filled_none _ c.requires.narrow
 
 pub offset_bounds-regs-at : goal.offset_bounds-regs-at
-offset_bounds-regs-at c = let h = (let at_inside : c.slot-at.result < length c.args.regs.now = slot_in_lem c.requires _ _ c.slot-at.ensures (omega arith) in at_inside) in omega arith
+offset_bounds-regs-at c = omega (arith, slot_in_lem c.requires _ _ c.slot-at.ensures (omega arith))
 
 pub bounds-regs-at : goal.bounds-regs-at
-bounds-regs-at c = (let at_inside : c.slot-at.result < length c.args.regs.now = slot_in_lem c.requires _ _ c.slot-at.ensures (omega arith) in at_inside)
+bounds-regs-at c = slot_in_lem c.requires _ _ c.slot-at.ensures (omega arith)
 
 pub loop-i-preserved : goal.loop-i-preserved
 loop-i-preserved c =

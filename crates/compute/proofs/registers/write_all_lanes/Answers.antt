@@ -17,7 +17,7 @@ pub bounds-results-k : goal.bounds-results-k
 bounds-results-k c = omega (arith, c.requires.narrow)
 
 pub offset_bounds-regs-at : goal.offset_bounds-regs-at
-offset_bounds-regs-at c = let h = (let at_inside : c.slot-at.result < length c.args.regs.now = slot_in_lem c.requires _ _ c.slot-at.ensures (omega arith) in at_inside) in omega arith
+offset_bounds-regs-at c = omega (arith, slot_in_lem c.requires _ _ c.slot-at.ensures (omega arith))
 
 pub bounds-regs-at : goal.bounds-regs-at
 bounds-regs-at c = omega (
@@ -35,8 +35,7 @@ loop-i-preserved c =
     (write_turn_all a.shape a.rd a.results.now h.i h.regs _ c.slot-at.ensures (omega arith))
 
 pub shape_of-regs : goal.shape_of-regs
-shape_of-regs c = (let at_long : length c.loop-i.regs ≡ length c.args.regs.now = let a = c.args in
-    length-turned (length-write_turn a.shape a.rd (first a.shape.width) a.results.now) c.loop-i.invariant in at_long)
+shape_of-regs c = let a = c.args in length-turned (length-write_turn a.shape a.rd (first a.shape.width) a.results.now) c.loop-i.invariant
 
 pub returns : goal.returns
 unfolding write_lanes

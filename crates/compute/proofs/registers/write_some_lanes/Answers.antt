@@ -13,7 +13,7 @@ pub loop-i-init : goal.loop-i-init
 loop-i-init c = turned_none _ _
 
 pub offset_bounds-regs-at : goal.offset_bounds-regs-at
-offset_bounds-regs-at c = let h = (let at_inside : c.slot-at.result < length c.args.regs.now = slot_in_lem c.requires _ _ c.slot-at.ensures (omega arith) in at_inside) in omega arith
+offset_bounds-regs-at c = omega (arith, slot_in_lem c.requires _ _ c.slot-at.ensures (omega arith))
 
 pub bounds-regs-at : goal.bounds-regs-at
 bounds-regs-at c = omega (arith, (let at_long : length c.loop-i.regs ≡ length c.args.regs.now = let a = c.args in length-turned (length-write_turn a.shape a.rd a.t a.results.now) c.loop-i.invariant in at_long), (let at_inside : c.slot-at.result < length c.args.regs.now = slot_in_lem c.requires _ _ c.slot-at.ensures (omega arith) in at_inside))
@@ -25,7 +25,7 @@ pub bounds-results-k : goal.bounds-results-k
 bounds-results-k c = omega (arith, c.requires.narrow)
 
 pub offset_bounds-regs-at-in-loop-i : goal.offset_bounds-regs-at-in-loop-i
-offset_bounds-regs-at-in-loop-i c = let h = (let at_inside : c.slot-at.result < length c.args.regs.now = slot_in_lem c.requires _ _ c.slot-at.ensures (omega arith) in at_inside) in omega arith
+offset_bounds-regs-at-in-loop-i c = omega (arith, slot_in_lem c.requires _ _ c.slot-at.ensures (omega arith))
 
 pub bounds-regs-at-in-loop-i : goal.bounds-regs-at-in-loop-i
 bounds-regs-at-in-loop-i c = omega (arith, (let at_long : length c.loop-i.regs ≡ length c.args.regs.now = let a = c.args in length-turned (length-write_turn a.shape a.rd a.t a.results.now) c.loop-i.invariant in at_long), (let at_inside : c.slot-at.result < length c.args.regs.now = slot_in_lem c.requires _ _ c.slot-at.ensures (omega arith) in at_inside))
@@ -38,7 +38,7 @@ loop-i-preserved c =
     (write_turn_lem a.shape a.rd a.t a.results.now _ h.regs _ _ _ c.slot-at.ensures c.picks.ensures c.chosen.ensures)
 
 pub shape_of-regs : goal.shape_of-regs
-shape_of-regs c = (let at_long : length c.loop-i.regs ≡ length c.args.regs.now = let a = c.args in length-turned (length-write_turn a.shape a.rd a.t a.results.now) c.loop-i.invariant in at_long)
+shape_of-regs c = let a = c.args in length-turned (length-write_turn a.shape a.rd a.t a.results.now) c.loop-i.invariant
 
 pub returns : goal.returns
 unfolding write_lanes

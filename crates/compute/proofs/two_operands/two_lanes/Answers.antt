@@ -1,7 +1,5 @@
 -- `compute::two_operands::two_lanes` meets its contract: at turn i the lanes below i have their results.
-use Prim.Native.Nat.{◌<◌}
 use native.Mathlib.Omega.{arith}
-use lib.ListN.{length}
 use Rattle.arith.specs.Arith.{two_of}
 use Rattle.compute.specs.Lanewise.{two_lanes}
 use Rattle.compute.proofs.Slots.{slot_in_lem}
@@ -13,16 +11,16 @@ pub loop-i-init : goal.loop-i-init
 loop-i-init c = filled_none _ c.requires.0.narrow
 
 pub offset_bounds-regs-p : goal.offset_bounds-regs-p
-offset_bounds-regs-p c = let h = (let at_inside : c.slot-p.result < length c.args.regs.now = slot_in_lem c.requires.0 _ _ c.slot-p.ensures (omega arith) in at_inside) in omega arith
+offset_bounds-regs-p c = omega (arith, slot_in_lem c.requires.0 _ _ c.slot-p.ensures (omega arith))
 
 pub bounds-regs-p : goal.bounds-regs-p
-bounds-regs-p c = (let at_inside : c.slot-p.result < length c.args.regs.now = slot_in_lem c.requires.0 _ _ c.slot-p.ensures (omega arith) in at_inside)
+bounds-regs-p c = slot_in_lem c.requires.0 _ _ c.slot-p.ensures (omega arith)
 
 pub offset_bounds-regs-q : goal.offset_bounds-regs-q
-offset_bounds-regs-q c = let h = (let at_inside_second : c.slot-q.result < length c.args.regs.now = slot_in_lem c.requires.1 _ _ c.slot-q.ensures (omega arith) in at_inside_second) in omega arith
+offset_bounds-regs-q c = omega (arith, slot_in_lem c.requires.1 _ _ c.slot-q.ensures (omega arith))
 
 pub bounds-regs-q : goal.bounds-regs-q
-bounds-regs-q c = (let at_inside_second : c.slot-q.result < length c.args.regs.now = slot_in_lem c.requires.1 _ _ c.slot-q.ensures (omega arith) in at_inside_second)
+bounds-regs-q c = slot_in_lem c.requires.1 _ _ c.slot-q.ensures (omega arith)
 
 pub loop-i-preserved : goal.loop-i-preserved
 loop-i-preserved c =
