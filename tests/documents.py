@@ -24,7 +24,7 @@ STRICT = {'DEMANDS.md', 'PROMISES.md', 'ARCHITECTURE.md', 'DECISIONS.md', 'CONTR
 OTHERS = {
     'requires', 'ensures', 'specs/', 'src/', 'proofs/', 'must-fail/', 'target/', 'rt', 'cargo', 'python3', 'stdin', 'stdout', 'omega', 'simp',
     'rw', 'cc', 'bit_or', 'bit_and', 'min', 'crate', 'File.name',
-    'slices', 'pN', 'std', 'io', 'libc', 'os', 'out/',
+    'slices', 'pN', 'std', 'io', 'libc', 'os', 'out/', 'Option', 'Result',
 }
 FILE_NAME = re.compile(r"[A-Z]\w*\.[\w'-]+")
 PATH = re.compile(r'[\w.*-]+(/[\w.*-]+)*/?')

@@ -1,7 +1,6 @@
 pub mod Reading
 pub mod Folding
 pub mod Voting
-pub mod Spreading
 pub mod Summing
 pub mod Ranking
 pub mod OneAnswer

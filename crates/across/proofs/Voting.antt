@@ -10,6 +10,7 @@ use native.Mathlib.Omega.{arith}
 use lib.Bits.{bit_and}
 use lib.Dec.{eqb, ltb}
 use borrow.Author.Tests.{eqb-true, eq-eqb, ne_eqb}
+use Rattle.std.specs.Int.{from_bool}
 use Rattle.ground.proofs.Bools.{never}
 use Rattle.lanes.specs.Sets.{widest, has, without, first}
 use Rattle.lanes.proofs.Bits.{set_of_lt}
@@ -20,6 +21,10 @@ use Rattle.across.specs.Across.{nonzero, zeros, across_of}
 
 -- ---- as the code tells them
 
+as_number : (b : Bool) → from_bool b ≡ cond b 1 0
+as_number true = refl
+as_number false = refl
+
 rest_of : (a b z : Bool) → ((a && b) && not (b && (a && not z))) ≡ (b && (a && z))
 rest_of true true true = refl
 rest_of true true false = refl
@@ -27,7 +32,7 @@ rest_of true false z = refl
 rest_of false true z = refl
 rest_of false false z = refl
 
-pub others_zero : (W t : ℕ) (f : ℕ → ℕ) (every told set : ℕ) → W ≤ widest → every ≡ bit_and t (first (min W widest)) → told ≡ nonzero W t f
+others_zero : (W t : ℕ) (f : ℕ → ℕ) (every told set : ℕ) → W ≤ widest → every ≡ bit_and t (first (min W widest)) → told ≡ nonzero W t f
     → set ≡ without every told → set ≡ zeros W t f
 unfolding nonzero zeros
 others_zero W t f every told set n e v h =
@@ -39,6 +44,11 @@ others_zero W t f every told set n e v h =
     (ap (λ (s : ℕ). has s i) v ∙ has_set_of W _ i)
     ∙ rest_of (has t i) (ltb i W) (eqb (f i) 0)
     ∙ sym (has_set_of W (λ j. has t j && eqb (f j) 0) i))
+
+pub all_told : (W t : ℕ) (f : ℕ → ℕ) (every told set r : ℕ) → W ≤ widest → every ≡ bit_and t (first (min W widest)) → told ≡ nonzero W t f
+    → set ≡ without every told → r ≡ from_bool (eqb set 0) → r ≡ cond (eqb (zeros W t f) 0) 1 0
+all_told W t f every told set r n e v h a =
+    a ∙ as_number (eqb set 0) ∙ ap (λ (s : ℕ). cond (eqb s 0) 1 0) (others_zero W t f every told set n e v h)
 
 -- ---- THEOREMS
 

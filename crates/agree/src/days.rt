@@ -1,22 +1,14 @@
 // Cases about day files: making one, reading a record of one, listing one. Each answers how many bytes its answer has, none where the
 // case's bytes are not all there or the answer has no room. The bytes begin behind the case's numbers: two of them, or one to list.
 use crate::format::{LENGTH_BYTES, give_length, give_padding, give_words, low, mark, number};
-use dayfile::answer::MakeAnswer;
-use records::answer::{CountAnswer, ReadAnswer};
+use records::Record;
+use refusals::Refusal;
 use std::num::wrapping_add_usize;
 
 // Makes a day file in a room of A5.
-fn make_in(bodies: &[u8], room: &mut [u8]) -> MakeAnswer {
+fn make_in(bodies: &[u8], room: &mut [u8]) -> Result<usize, Refusal> {
     mark(room);
     dayfile::make(bodies, room)
-}
-
-// What making a day file answered.
-fn give_made(out: &mut [u8], made: MakeAnswer) -> usize {
-    match made {
-        MakeAnswer::Made(n) => give_length(out, 0, 0, 0, n),
-        MakeAnswer::Refused(refusal) => give_length(out, 0, refusal.number, refusal.place, 0),
-    }
 }
 
 // The day file of a case's bodies. The bytes of the room that it is made in are part of the answer.
@@ -30,30 +22,27 @@ pub(crate) fn answer_make(case: &[u8], out: &mut [u8]) -> usize {
         return 0;
     }
     let made = make_in(&case[8..last], &mut out[LENGTH_BYTES..end]);
-    give_made(out, made);
+    give_length(out, 0, made);
     give_padding(out, end)
 }
 
 // The count of a file's records.
 fn give_count(out: &mut [u8], file: &[u8]) -> usize {
     let mut firsts = [0u32; dayfile::MOST_RECORDS];
-    match records::firsts(file, &mut firsts) {
-        CountAnswer::Count(n) => give_length(out, 0, 0, 0, n),
-        CountAnswer::Refused(refusal) => give_length(out, 0, refusal.number, refusal.place, 0),
-    }
+    give_length(out, 0, records::firsts(file, &mut firsts))
 }
 
 // What is said of record i.
 fn give_record(out: &mut [u8], at: usize, file: &[u8], i: usize) -> usize {
     match records::read(file, i) {
-        ReadAnswer::Record {
-            place,
-            length,
-            first,
-        } => give_words(out, at, &[0, 0, low(place), low(length), low(first)]),
-        ReadAnswer::Refused(refusal) => {
-            give_words(out, at, &[refusal.number, low(refusal.place), 0, 0, 0])
-        },
+        Ok(
+            Record {
+                place,
+                length,
+                first,
+            },
+        ) => give_words(out, at, &[0, 0, low(place), low(length), low(first)]),
+        Err(refusal) => { give_words(out, at, &[refusal.number, low(refusal.place), 0, 0, 0]) },
     }
 }
 

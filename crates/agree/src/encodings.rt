@@ -4,15 +4,16 @@ use crate::format::{
     LENGTH_BYTES, LENT_WORD, give_length, give_padding, give_words, mark, number, take_words,
 };
 use instructions::instr::{Guard, Instr, Op};
-use naming::{TextAnswer, write_text};
-use opcodes::table::{FoundOp, modifier_of, op_of, opcode_of};
-use words::reading::{ReadAnswer, read};
-use words::writing::{WriteAnswer, write};
+use naming::write_text;
+use opcodes::table::{modifier_of, op_of, opcode_of};
+use refusals::Refusal;
+use words::reading::read;
+use words::writing::write;
 
 // The most words that a case has, and the largest room.
 const MOST_WORDS: usize = 64;
 
-// The number of an operation: its opcode times 16, and its modifier.
+// The number of an operation, as the format has it: its opcode times 16, and its modifier.
 fn operation_number(op: Op) -> u32 {
     opcode_of(op) * 16 + modifier_of(op)
 }
@@ -21,7 +22,6 @@ fn operation_number(op: Op) -> u32 {
 fn give_instruction(out: &mut [u8], at: usize, instr: Instr) -> usize {
     let op = instr.op;
     let guard = instr.guard;
-    let negate = if guard.negate { 1 } else { 0 };
     let numbers = [
         operation_number(op),
         instr.rd as u32,
@@ -31,7 +31,7 @@ fn give_instruction(out: &mut [u8], at: usize, instr: Instr) -> usize {
         instr.number,
         instr.scope as u32,
         guard.pred as u32,
-        negate,
+        u32::from(guard.negate),
     ];
     give_words(out, at, &numbers)
 }
@@ -40,12 +40,12 @@ fn give_instruction(out: &mut [u8], at: usize, instr: Instr) -> usize {
 fn read_words(case: &[u8], words: &mut [u32], out: &mut [u8]) -> usize {
     take_words(case, 4, words);
     match read(words) {
-        ReadAnswer::Read { instr, words: n } => {
-            let at = give_length(out, 0, 0, 0, n);
-            give_instruction(out, at, instr)
+        Ok(found) => {
+            let at = give_length(out, 0, Ok(found.words as usize));
+            give_instruction(out, at, found.instr)
         }
-        ReadAnswer::Refused(refusal) => {
-            let at = give_length(out, 0, refusal.number, refusal.place, 0);
+        Err(refusal) => {
+            let at = give_length(out, 0, Err(refusal));
             give_words(out, at, &[0; 9])
         }
     }
@@ -54,11 +54,10 @@ fn read_words(case: &[u8], words: &mut [u32], out: &mut [u8]) -> usize {
 // The instruction that a case's words start with.
 pub(crate) fn answer_read(case: &[u8], out: &mut [u8]) -> usize {
     let mut words = [0u32; MOST_WORDS];
-    let count = number(case, 0) as usize;
-    if count <= MOST_WORDS {
-        return read_words(case, &mut words[..count], out);
+    match words.get_mut(..number(case, 0) as usize) {
+        Some(words) => read_words(case, words, out),
+        None => 0,
     }
-    0
 }
 
 // A field of an instruction, which has one byte.
@@ -104,53 +103,36 @@ fn instruction_of(case: &[u8], op: Op) -> Instr {
     }
 }
 
-// What writing an instruction answered.
-fn give_wrote(out: &mut [u8], wrote: WriteAnswer) -> usize {
-    match wrote {
-        WriteAnswer::Wrote { words: n } => give_length(out, 0, 0, 0, n),
-        WriteAnswer::Refused(refusal) => give_length(out, 0, refusal.number, refusal.place, 0),
-    }
-}
-
 // The words of an operation with a case's fields, in the room that is lent; the room's words are part of the answer.
 fn write_words(case: &[u8], op: Op, room: &mut [u32], out: &mut [u8]) -> usize {
     let wrote = write(instruction_of(case, op), room);
-    let at = give_wrote(out, wrote);
+    let at = give_length(out, 0, wrote);
     give_words(out, at, room)
 }
 
 // The words of a case's instruction, written in a room of A5.
 pub(crate) fn answer_write(case: &[u8], out: &mut [u8]) -> usize {
     let operation = number(case, 0);
-    let FoundOp::Carried(op) = op_of(operation / 16, operation % 16) else {
+    let Some(op) = op_of(operation / 16, operation % 16) else {
         return 0;
     };
     let mut room = [LENT_WORD; MOST_WORDS];
-    let count = number(case, 9) as usize;
-    if count <= MOST_WORDS {
-        return write_words(case, op, &mut room[..count], out);
+    match room.get_mut(..number(case, 9) as usize) {
+        Some(room) => write_words(case, op, room, out),
+        None => 0,
     }
-    0
 }
 
 // Writes the text of an instruction in a room of A5.
-fn text_in(instr: Instr, room: &mut [u8]) -> TextAnswer {
+fn text_in(instr: Instr, room: &mut [u8]) -> Result<usize, Refusal> {
     mark(room);
     write_text(instr, room)
-}
-
-// What writing a text answered.
-fn give_text(out: &mut [u8], wrote: TextAnswer) -> usize {
-    match wrote {
-        TextAnswer::Wrote { bytes: n } => give_length(out, 0, 0, 0, n),
-        TextAnswer::Refused(refusal) => give_length(out, 0, refusal.number, refusal.place, 0),
-    }
 }
 
 // The text of a case's instruction. The bytes of the room that it is written in are part of the answer.
 pub(crate) fn answer_text(case: &[u8], out: &mut [u8]) -> usize {
     let operation = number(case, 0);
-    let FoundOp::Carried(op) = op_of(operation / 16, operation % 16) else {
+    let Some(op) = op_of(operation / 16, operation % 16) else {
         return 0;
     };
     let end = LENGTH_BYTES + number(case, 9) as usize;
@@ -158,6 +140,6 @@ pub(crate) fn answer_text(case: &[u8], out: &mut [u8]) -> usize {
         return 0;
     }
     let wrote = text_in(instruction_of(case, op), &mut out[LENGTH_BYTES..end]);
-    give_text(out, wrote);
+    give_length(out, 0, wrote);
     give_padding(out, end)
 }

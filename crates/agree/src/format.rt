@@ -1,5 +1,6 @@
 // Cases and answers as numbers: four bytes each, low byte first. Places are counted in bytes.
 use numbers::{get, get_words, put_bytes, put_words};
+use refusals::Refusal;
 use std::num::wrapping_add_usize;
 
 // The byte that fills what is lent for output.
@@ -33,15 +34,12 @@ pub(crate) fn give_words(out: &mut [u8], at: usize, words: &[u32]) -> usize {
     wrapping_add_usize(at, 4 * words.len())
 }
 
-// Puts a refusal's number and place, and a length, and answers the place behind them.
-pub(crate) fn give_length(
-    out: &mut [u8],
-    at: usize,
-    refusal: u32,
-    place: usize,
-    length: usize,
-) -> usize {
-    give_words(out, at, &[refusal, low(place), low(length)])
+// Puts a refusal's number and place, and a length, of which what was answered has one, and the rest is 0. Answers the place behind them.
+pub(crate) fn give_length(out: &mut [u8], at: usize, answer: Result<usize, Refusal>) -> usize {
+    match answer {
+        Ok(length) => give_words(out, at, &[0, 0, low(length)]),
+        Err(refusal) => give_words(out, at, &[refusal.number, low(refusal.place), 0]),
+    }
 }
 
 // Puts zero bytes behind bytes that end at `end`, up to a multiple of four, and answers the place behind them.
@@ -52,9 +50,5 @@ pub(crate) fn give_padding(out: &mut [u8], end: usize) -> usize {
 
 // Makes all bytes of a room A5.
 pub(crate) fn mark(room: &mut [u8]) {
-    let mut i: usize = 0;
-    while i < room.len() {
-        room[i] = LENT;
-        i += 1;
-    }
+    room.fill(LENT);
 }

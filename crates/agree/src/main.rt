@@ -10,13 +10,20 @@ mod states;
 
 ghost use Rattle.std.specs.Prelude.{◌≡◌, length};
 
+use numbers::get;
+
+// Read and written by `io`, which stands on two calls of the system, where std's streams bring 37.
 const STDIN_FILENO: i32 = 0;
 
 const STDOUT_FILENO: i32 = 1;
 
-use numbers::get;
+// The bytes of the longest case, and of the longest answer.
+const LONGEST_CASE: usize = 320_000;
 
-// The answer to a case of this kind, at the start of `out`, and how many bytes it has; none for a kind that there isn't.
+const LONGEST_ANSWER: usize = 131_072;
+
+// The answer to a case of this kind, at the start of `out`, and how many bytes it has; none for a kind that there isn't. The kinds are the
+// format's numbers, told apart here alone: an enum of them would be made and matched in this one place.
 fn answer(kind: u32, case: &[u8], out: &mut [u8]) -> usize {
     match kind {
         1 => encodings::answer_read(case, out),
@@ -37,10 +44,10 @@ fn answer_case(kind: u32, case: &mut [u8], out: &mut [u8]) -> bool {
         return false;
     }
     let n = answer(kind, case, out);
-    if out.len() < n {
-        return false;
+    match out.get(..n) {
+        Some(answer) => io::write_all(STDOUT_FILENO, answer),
+        None => false,
     }
-    io::write_all(STDOUT_FILENO, &out[..n])
 }
 
 // Answers one case, and whether to go on: not where the input has ended, or the case has no room.
@@ -50,37 +57,31 @@ fn answer_next(case: &mut [u8], out: &mut [u8]) -> bool {
         return false;
     }
     let kind = get(&head, 0);
-    let size = 4 * (get(&head, 4) as usize);
-    if case.len() < size {
-        return false;
+    match case.get_mut(..4 * (get(&head, 4) as usize)) {
+        Some(case) => answer_case(kind, case, out),
+        None => false,
     }
-    answer_case(kind, &mut case[..size], out)
 }
 
-// A proved loop has to end, and nothing says that the input does. So the loop counts its turns down, from a number that no run uses up.
+// A proved loop has to end, and nothing says that the input does. So the loop counts its turns, up to a number that no run reaches.
 fn answer_all(case: &mut [u8], out: &mut [u8]) {
-    let mut turns = u64::MAX;
-    while turns > 0 && answer_next(case, out) {
-        turns -= 1;
+    for _turn in 0..u64::MAX {
+        if !answer_next(case, out) {
+            break;
+        }
     }
 }
 
-// Room for the longest case. The `ensures` gives only the length, which lending the array as a slice needs.
-fn case_room() -> [u8; 320000]
-    ensures { 320000 ≡ length result }
+// Room for so many bytes. The `ensures` gives only the length, which lending the array as a slice needs: where the array itself stands, the check
+// counts through it, and runs out of stack. `make_day` and `replay_capture` have the same: a crate for one function would be no plainer.
+fn bytes<const N: usize>() -> [u8; N]
+    ensures { N ≡ length result }
 {
-    [0; 320000]
-}
-
-// Room for the longest answer.
-fn answer_room() -> [u8; 131072]
-    ensures { 131072 ≡ length result }
-{
-    [0; 131072]
+    [0; N]
 }
 
 fn main() {
-    let mut case = case_room();
-    let mut out = answer_room();
+    let mut case = bytes::<LONGEST_CASE>();
+    let mut out = bytes::<LONGEST_ANSWER>();
     answer_all(&mut case, &mut out);
 }

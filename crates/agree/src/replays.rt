@@ -1,14 +1,12 @@
 // Cases about runs, and about keys alone. Each answers how many bytes its answer has, none where a case has more words or room than there
 // is here.
-//
-// The words of a run's case go into arrays: each function has one of them, and lends the part that the case fills to the next.
 use crate::format::{
     LENGTH_BYTES, give_length, give_padding, give_words, mark, number, take_words,
 };
 use crate::states::{KEY_STATE, give_outcome, give_state, outcome_of, state_at};
-use key::answer::KeyAnswer;
 use key::write_key;
 use lanes::WIDEST;
+use refusals::Refusal;
 use replay::allowed::{MOST_REGISTERS, MOST_WORDS};
 use replay::doors::{launch, resume};
 use std::num::wrapping_add_usize;
@@ -26,17 +24,9 @@ const MOST_LANE_WORDS: usize = (WIDEST as usize) * (MOST_REGISTERS as usize) + 1
 const MOST_MEMORY: usize = 2048;
 
 // Writes a key in a room of A5.
-fn write_in(kernel: u32, answer: Replayed, room: &mut [u8]) -> KeyAnswer {
+fn write_in(kernel: u32, answer: Replayed, room: &mut [u8]) -> Result<usize, Refusal> {
     mark(room);
     write_key(kernel, answer, room)
-}
-
-// What writing a key answered.
-fn give_wrote(out: &mut [u8], at: usize, wrote: KeyAnswer) -> usize {
-    match wrote {
-        KeyAnswer::Wrote(n) => give_length(out, at, 0, 0, n),
-        KeyAnswer::Refused(refusal) => give_length(out, at, refusal.number, refusal.place, 0),
-    }
 }
 
 // The key of what a run answered. The bytes of the room that it is written in are part of the answer.
@@ -50,7 +40,7 @@ fn give_key(out: &mut [u8], at: usize, kernel: u32, answer: Replayed, room: usiz
         return 0;
     }
     let wrote = write_in(kernel, answer, &mut out[from..end]);
-    give_wrote(out, at, wrote);
+    give_length(out, at, wrote);
     give_padding(out, end)
 }
 
@@ -74,102 +64,89 @@ fn settings_of(case: &[u8]) -> Settings {
     }
 }
 
-// The launch, or the run from the state whose words stand from place `at` on.
-fn run(
-    case: &[u8],
-    at: usize,
-    code: &[u32],
-    regs: &mut [u32],
-    device: &mut [u32],
-    local: &mut [u32],
-) -> Replayed {
+// The words of a run's case that the run may change, or room for them.
+#[derive(Drop)]
+struct Memory<'a> {
+    regs: &'a mut [u32],
+    device: &'a mut [u32],
+    local: &'a mut [u32],
+}
+
+impl<'a> Memory<'a> {
+    // As much of this room as the case has words of each; none where it has more.
+    fn room_for(self, case: &[u8]) -> Option<Memory<'a>> {
+        Some(Memory {
+            regs: self.regs.get_mut(..number(case, 6) as usize)?,
+            device: self.device.get_mut(..number(case, 7) as usize)?,
+            local: self.local.get_mut(..number(case, 8) as usize)?,
+        })
+    }
+
+    // Takes the words of a case from place `at` on, and answers the place behind them.
+    fn take(&mut self, case: &[u8], at: usize) -> usize {
+        let at = take_words(case, at, self.regs);
+        let at = take_words(case, at, self.device);
+        take_words(case, at, self.local)
+    }
+
+    // Puts the words as they now are, and answers the place behind them.
+    fn give(&self, out: &mut [u8], at: usize) -> usize {
+        let at = give_words(out, at, self.regs);
+        let at = give_words(out, at, self.device);
+        give_words(out, at, self.local)
+    }
+}
+
+// The launch, or the run from the state whose words stand from place `at` on. Which of both the format says by a number, read here alone.
+fn run(case: &[u8], at: usize, code: &[u32], memory: &mut Memory) -> Replayed {
     let settings = settings_of(case);
     if number(case, 9) == 0 {
-        return launch(settings, code, regs, device, local);
+        return launch(settings, code, memory.regs, memory.device, memory.local);
     }
-    resume(settings, state_at(case, at), code, regs, device, local)
+    let from = state_at(case, at);
+    resume(
+        settings,
+        from,
+        code,
+        memory.regs,
+        memory.device,
+        memory.local,
+    )
 }
 
 // What a run answered, and the words that it was lent as they now are.
-fn give_run(
-    out: &mut [u8],
-    answer: Replayed,
-    regs: &[u32],
-    device: &[u32],
-    local: &[u32],
-) -> usize {
-    let outcome = answer.outcome;
-    let state = answer.state;
-    let at = give_outcome(out, 0, outcome);
+fn give_run(out: &mut [u8], answer: Replayed, memory: &Memory) -> usize {
+    let at = give_outcome(out, 0, answer.outcome);
     let at = give_words(out, at, &[answer.steps]);
-    let at = give_state(out, at, state);
-    let at = give_words(out, at, regs);
-    let at = give_words(out, at, device);
-    give_words(out, at, local)
+    let at = give_state(out, at, answer.state);
+    memory.give(out, at)
 }
 
-// The run with all words, those of local memory taken from place `at` on.
-fn with_local(
-    case: &[u8],
-    at: usize,
-    code: &[u32],
-    regs: &mut [u32],
-    device: &mut [u32],
-    local: &mut [u32],
-    out: &mut [u8],
-) -> usize {
-    let next = take_words(case, at, local);
-    let answer = run(case, next, code, regs, device, local);
-    let at = give_run(out, answer, regs, device, local);
+// The run with the words of a case, for which there is as much room as they take.
+fn answer_in(case: &[u8], code: &mut [u32], memory: &mut Memory, out: &mut [u8]) -> usize {
+    let at = take_words(case, RUN_WORDS, code);
+    let at = memory.take(case, at);
+    let answer = run(case, at, code, memory);
+    let at = give_run(out, answer, memory);
     give_key(out, at, number(case, 0), answer, number(case, 10) as usize)
-}
-
-// The run with the words of device memory, which are taken from place `at` on.
-fn with_device(
-    case: &[u8],
-    at: usize,
-    code: &[u32],
-    regs: &mut [u32],
-    device: &mut [u32],
-    out: &mut [u8],
-) -> usize {
-    let next = take_words(case, at, device);
-    let mut words = [0u32; MOST_MEMORY];
-    let n = number(case, 8) as usize;
-    if n <= MOST_MEMORY {
-        return with_local(case, next, code, regs, device, &mut words[..n], out);
-    }
-    0
-}
-
-// The run with the words of the registers, which are taken from place `at` on.
-fn with_registers(case: &[u8], at: usize, code: &[u32], regs: &mut [u32], out: &mut [u8]) -> usize {
-    let next = take_words(case, at, regs);
-    let mut words = [0u32; MOST_MEMORY];
-    let n = number(case, 7) as usize;
-    if n <= MOST_MEMORY {
-        return with_device(case, next, code, regs, &mut words[..n], out);
-    }
-    0
-}
-
-// The run with the words of the code, which are the first.
-fn with_code(case: &[u8], code: &mut [u32], out: &mut [u8]) -> usize {
-    let next = take_words(case, RUN_WORDS, code);
-    let mut words = [0u32; MOST_LANE_WORDS];
-    let n = number(case, 6) as usize;
-    if n <= MOST_LANE_WORDS {
-        return with_registers(case, next, code, &mut words[..n], out);
-    }
-    0
 }
 
 // A run, launched or from a state, with the key of its outcome.
 pub(crate) fn answer_run(case: &[u8], out: &mut [u8]) -> usize {
-    let mut words = [0u32; MOST_CODE];
-    let n = number(case, 5) as usize;
-    if n <= MOST_CODE {
-        return with_code(case, &mut words[..n], out);
+    let mut code = [0u32; MOST_CODE];
+    let mut regs = [0u32; MOST_LANE_WORDS];
+    let mut device = [0u32; MOST_MEMORY];
+    let mut local = [0u32; MOST_MEMORY];
+    let room = Memory {
+        regs: &mut regs[..],
+        device: &mut device[..],
+        local: &mut local[..],
+    };
+    match (
+        code.get_mut(..number(case, 5) as usize),
+        room.room_for(case),
+    ) {
+        (Some(code), Some(mut memory)) => answer_in(case, code, &mut memory, out),
+        _ => 0,
     }
-    0
 }

@@ -4,47 +4,36 @@ use faulting::faults::{Faults, KINDS, from_lanes, lanes_of_kind, no_faults};
 use packing::{STATE_WORDS, state_of, word_count, words_of};
 use refusals::Refusal;
 use stepping::answers::Outcome;
-use wave::state::{State, whole};
+use wave::state::State;
 
 // Where the lanes of each kind of fault stand in a key's case, behind five numbers, and behind them the state.
 const KEY_FAULTS: usize = 20;
 
 pub(crate) const KEY_STATE: usize = KEY_FAULTS + 4 * KINDS;
 
-// Puts three numbers, and the lanes of each kind of fault.
-fn give_faults(
-    out: &mut [u8],
-    at: usize,
-    which: u32,
-    refusal: u32,
-    place: usize,
-    f: Faults,
-) -> usize {
-    let mut q = give_words(out, at, &[which, refusal, low(place)]);
-    let mut kind: usize = 1;
-    while kind <= KINDS {
-        q = give_words(out, q, &[lanes_of_kind(kind, f)]);
-        kind += 1;
-    }
-    q
-}
-
-// Puts an outcome's numbers: which it is, a refusal's number and place, and the lanes of each kind of fault.
+// Puts an outcome's numbers: which it is, a refusal's number and place, and the lanes of each kind of fault. Which it is the format says by a
+// number, made here and read in `outcome_of` alone.
 pub(crate) fn give_outcome(out: &mut [u8], at: usize, outcome: Outcome) -> usize {
-    let none = no_faults();
-    match outcome {
-        Outcome::Ended => give_faults(out, at, 0, 0, 0, none),
-        Outcome::OutOfBudget => give_faults(out, at, 1, 0, 0, none),
-        Outcome::Fault(f) => give_faults(out, at, 2, 0, 0, f),
-        Outcome::Refused(refusal) => give_faults(out, at, 3, refusal.number, refusal.place, none),
+    let unbroken = Refusal {
+        number: 0,
+        place: 0,
+    };
+    let (which, refusal, faults) = match outcome {
+        Outcome::Ended => (0, unbroken, no_faults()),
+        Outcome::OutOfBudget => (1, unbroken, no_faults()),
+        Outcome::Fault(faults) => (2, unbroken, faults),
+        Outcome::Refused(refusal) => (3, refusal, no_faults()),
+    };
+    let mut at = give_words(out, at, &[which, refusal.number, low(refusal.place)]);
+    for kind in 1..=KINDS {
+        at = give_words(out, at, &[lanes_of_kind(kind, faults)]);
     }
+    at
 }
 
 // Puts a state's words, of its blocks the first 32.
 pub(crate) fn give_state(out: &mut [u8], at: usize, state: State) -> usize {
     let hot = state.hot;
-    let blocks = state.blocks;
-    whole(&blocks);
     let words = words_of(state);
     let n = word_count(hot.depth);
     give_words(out, at, &words[..n])

@@ -11,5 +11,5 @@ pub const BITS: u32 = 32;
 pub fn ones(a: u32) -> u32
     ensures { result ≡ one_of OneOp.Popcnt a }
 {
-    u32::count_ones(a)
+    a.count_ones()
 }

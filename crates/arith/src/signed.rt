@@ -15,22 +15,14 @@ pub const MINUS_ONE: u32 = 0xFFFF_FFFF;
 pub fn to_signed(x: u32) -> i32
     ensures { result ≡ signed x }
 {
-    if x < LEAST {
-        x as i32
-    } else {
-        -1 - ((MINUS_ONE - x) as i32)
-    }
+    x.cast_signed()
 }
 
 // The register that holds a signed number.
 pub fn to_register(z: i32) -> u32
     ensures { result ≡ register z }
 {
-    if 0 <= z {
-        z as u32
-    } else {
-        MINUS_ONE - ((-1 - z) as u32)
-    }
+    z.cast_unsigned()
 }
 
 // Whether `a` is below `b`, both signed.
@@ -42,7 +34,7 @@ pub fn less(a: u32, b: u32) -> bool
     x < y
 }
 
-// The lower of two signed numbers.
+// The lower of two signed numbers. Over `less`, and not by the library's `min`, whose answer would be written back to a register.
 pub fn min(a: u32, b: u32) -> u32
     ensures { result ≡ two_of TwoOp.Min a b }
 {
@@ -60,5 +52,5 @@ pub fn max(a: u32, b: u32) -> u32
 pub fn abs(a: u32) -> u32
     ensures { result ≡ one_of OneOp.Abs a }
 {
-    if a < LEAST { a } else { MINUS_ONE - a + 1 }
+    to_signed(a).unsigned_abs()
 }

@@ -8,23 +8,23 @@ use instructions::instr::{OneOp, TwoOp};
 pub fn address(base: u32, offset: u32) -> u32
     ensures { result ≡ address_of base offset }
 {
-    std::num::wrapping_add_u32(base, offset)
+    base.wrapping_add(offset)
 }
 
 pub fn add(a: u32, b: u32) -> u32
     ensures { result ≡ two_of TwoOp.Add a b }
 {
-    std::num::wrapping_add_u32(a, b)
+    a.wrapping_add(b)
 }
 
 pub fn sub(a: u32, b: u32) -> u32
     ensures { result ≡ two_of TwoOp.Sub a b }
 {
-    std::num::wrapping_sub_u32(a, b)
+    a.wrapping_sub(b)
 }
 
 pub fn neg(a: u32) -> u32
     ensures { result ≡ one_of OneOp.Neg a }
 {
-    std::num::wrapping_sub_u32(0, a)
+    a.wrapping_neg()
 }

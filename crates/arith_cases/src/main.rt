@@ -4,13 +4,30 @@
 
 use arith::sums::address;
 use instructions::instr::{AtomicOp, CompareOp, OneOp, TwoOp};
-
-const STDOUT_FILENO: i32 = 1;
-
 use operations::divides;
 
-// How many corner values there are.
-const CORNERS: u32 = 16;
+// Written by `io`, which stands on one call of the system, where std's streams bring 37.
+const STDOUT_FILENO: i32 = 1;
+
+// The corner values.
+const CORNERS: [u32; 16] = [
+    0,
+    1,
+    2,
+    3,
+    7,
+    31,
+    32,
+    33,
+    0x1234_5678,
+    0x7FFF_FFFF,
+    0x8000_0000,
+    0x8000_0001,
+    0xDEAD_BEEF,
+    0xFFFF_FFF9,
+    0xFFFF_FFFE,
+    0xFFFF_FFFF,
+];
 
 // What is worked out of two operands.
 #[derive(Clone, Copy)]
@@ -21,28 +38,6 @@ enum Work {
     Atomic(AtomicOp),
     Swap,
     Address,
-}
-
-// Corner value `i`.
-fn corner(i: u32) -> u32 {
-    match i {
-        0 => 0,
-        1 => 1,
-        2 => 2,
-        3 => 3,
-        4 => 7,
-        5 => 31,
-        6 => 32,
-        7 => 33,
-        8 => 0x1234_5678,
-        9 => 0x7FFF_FFFF,
-        10 => 0x8000_0000,
-        11 => 0x8000_0001,
-        12 => 0xDEAD_BEEF,
-        13 => 0xFFFF_FFF9,
-        14 => 0xFFFF_FFFE,
-        _ => 0xFFFF_FFFF,
-    }
 }
 
 // Whether the work faults on `b`.
@@ -58,7 +53,7 @@ fn answer(work: Work, a: u32, b: u32) -> u32 {
     match work {
         Work::Two(op) => operations::two(op, a, b),
         Work::One(op) => operations::one(op, b),
-        Work::Compare(op) => if operations::compare(op, a, b) { 1 } else { 0 },
+        Work::Compare(op) => u32::from(operations::compare(op, a, b)),
         Work::Atomic(op) => operations::atomic(op, a, b),
         Work::Swap => operations::swap(a, b, 5),
         Work::Address => address(a, b),
@@ -86,20 +81,16 @@ fn put(work: Work, a: u32, b: u32) {
 // One line: the name, `a`, and the answer for each corner value.
 fn line(name: &[u8], work: Work, a: u32) {
     start(name, a);
-    let mut i: u32 = 0;
-    while i < CORNERS {
-        put(work, a, corner(i));
-        i += 1;
+    for b in CORNERS {
+        put(work, a, b);
     }
     io::write_all(STDOUT_FILENO, b"\n");
 }
 
 // A line for each corner value as the first operand.
 fn lines(name: &[u8], work: Work) {
-    let mut i: u32 = 0;
-    while i < CORNERS {
-        line(name, work, corner(i));
-        i += 1;
+    for a in CORNERS {
+        line(name, work, a);
     }
 }
 

@@ -1,18 +1,22 @@
 -- An instruction that is read has a word, and all its words are in the code: so the pass over the code moves on, and ends.
+use Rattle.refusals.specs.declared.Refusal.{Refusal}
+use Rattle.words.specs.declared.reading.Fetched.{Fetched}
+use Rattle.std.specs.Prelude.{Option, Some, None, Result, Ok, Err}
 use Prim.Native.Nat.{ℕ, ◌+◌, ◌≤◌, ◌<◌}
 use native.Mathlib.Omega.{arith}
 use mathlib.Core.Path.{◌≡◌, refl, ap, ◌∙◌}
 use mathlib.Core.Bool.{Bool, true, false, cond}
 use mathlib.Core.List.{List}
 use lib.ListN.{length, take, drop, length-take, length-drop}
-use Rattle.refusals.specs.Table.{Rule, broken}
+use Rattle.std.specs.Prelude.{Result, Ok, Err}
+use Rattle.refusals.specs.declared.Refusal.{Refusal}
+use Rattle.refusals.specs.declared.Rule.{Rule}
+use Rattle.refusals.specs.Table.{broken}
 use Rattle.instructions.specs.declared.instr.ControlOp.{ControlOp}
 use Rattle.instructions.specs.declared.instr.Instr.{Instr}
-use Rattle.fetching.specs.declared.ControlIn.{ControlIn}
-use Rattle.words.specs.declared.reading.ReadAnswer.{ReadAnswer}
 use Rattle.instructions.specs.Forms.{limits_of, size_of}
 use Rattle.fetching.specs.Fetching.{control_in}
-use Rattle.words.specs.Layout.{words_of}
+use Rattle.words.specs.Layout.{words_of, counted}
 use Rattle.words.specs.Reading.{read_at}
 use Rattle.instructions.specs.Registers.{registers_below}
 use Rattle.words.proofs.Sizes.{words_length, size_positive}
@@ -23,21 +27,25 @@ use Rattle.blocks.specs.Item.{item_by, item_of, seen, item_at}
 use Rattle.blocks.specs.Code.{Code, code_of}
 
 -- an item at a place of code of a size
-abbrev pub Ok : ℕ → ℕ → Item → Type 0
-Ok at size (Item.Plain w) = (1 ≤ w) × (at + w ≤ size)
-Ok at size Item.If = Unit {0}
-Ok at size Item.Else = Unit {0}
-Ok at size Item.Endif = Unit {0}
-Ok at size Item.Loop = Unit {0}
-Ok at size Item.Jump = Unit {0}
-Ok at size Item.Endloop = Unit {0}
-Ok at size (Item.Bad r) = Unit {0}
+abbrev pub InCode : ℕ → ℕ → Item → Type 0
+InCode at size (Item.Plain w) = (1 ≤ w) × (at + w ≤ size)
+InCode at size Item.If = Unit {0}
+InCode at size Item.Else = Unit {0}
+InCode at size Item.Endif = Unit {0}
+InCode at size Item.Loop = Unit {0}
+InCode at size Item.Jump = Unit {0}
+InCode at size Item.Endloop = Unit {0}
+
+-- what the blocks see at a place, where it is no refusal, is in the code
+abbrev pub SeenInCode : ℕ → ℕ → Result Item Refusal → Type 0
+SeenInCode at size (Ok i) = InCode at size i
+SeenInCode at size (Err r) = Unit {0}
 
 abbrev pub Fits : Code → Type 0
-Fits code = (at : ℕ) → at < code.size → Ok at code.size (code.item at)
+Fits code = (at : ℕ) → at < code.size → SeenInCode at code.size (code.item at)
 
 -- what is read is as wide as its operation, and in the code
-pub read_wide : (words : List ℕ) (at : ℕ) (i : Instr) (n : ℕ) → read_at words at ≡ ReadAnswer.Read i n
+pub read_wide : (words : List ℕ) (at : ℕ) (i : Instr) (n : ℕ) → read_at words at ≡ Ok (counted i n)
     → (n ≡ size_of (limits_of i.op).second) × (at + n ≤ length words)
 read_wide words at i n e =
     let s = stood words at i n e in
@@ -47,30 +55,30 @@ read_wide words at i n e =
     (same, omega (arith, simp (length-take, length-drop) at there, s.1))
 
 -- what the blocks see of an instruction is in the code
-item_ok : (at size n : ℕ) (c : ControlIn) → 1 ≤ n → at + n ≤ size → Ok at size (item_by c n)
-item_ok at size n ControlIn.Other e h = (e, h)
-item_ok at size n (ControlIn.Control ControlOp.If) e h = tt
-item_ok at size n (ControlIn.Control ControlOp.Else) e h = tt
-item_ok at size n (ControlIn.Control ControlOp.Endif) e h = tt
-item_ok at size n (ControlIn.Control ControlOp.Loop) e h = tt
-item_ok at size n (ControlIn.Control ControlOp.Break) e h = tt
-item_ok at size n (ControlIn.Control ControlOp.Continue) e h = tt
-item_ok at size n (ControlIn.Control ControlOp.Endloop) e h = tt
-item_ok at size n (ControlIn.Control ControlOp.Halt) e h = omega arith
-item_ok at size n (ControlIn.Control ControlOp.Barrier) e h = omega arith
-item_ok at size n (ControlIn.Control ControlOp.Nop) e h = omega arith
+item_ok : (at size n : ℕ) (c : Option ControlOp) → 1 ≤ n → at + n ≤ size → InCode at size (item_by c n)
+item_ok at size n None e h = (e, h)
+item_ok at size n (Some ControlOp.If) e h = tt
+item_ok at size n (Some ControlOp.Else) e h = tt
+item_ok at size n (Some ControlOp.Endif) e h = tt
+item_ok at size n (Some ControlOp.Loop) e h = tt
+item_ok at size n (Some ControlOp.Break) e h = tt
+item_ok at size n (Some ControlOp.Continue) e h = tt
+item_ok at size n (Some ControlOp.Endloop) e h = tt
+item_ok at size n (Some ControlOp.Halt) e h = omega arith
+item_ok at size n (Some ControlOp.Barrier) e h = omega arith
+item_ok at size n (Some ControlOp.Nop) e h = omega arith
 
-cond_ok : (at size : ℕ) (b : Bool) (x y : Item) → Ok at size x → Ok at size y → Ok at size (cond b x y)
+cond_ok : (at size : ℕ) (b : Bool) (x y : Result Item Refusal) → SeenInCode at size x → SeenInCode at size y → SeenInCode at size (cond b x y)
 cond_ok at size true x y p q = p
 cond_ok at size false x y p q = q
 
-seen_ok : (words : List ℕ) (by : Reading) (at : ℕ) (a : ReadAnswer) → read_at words at ≡ a → Ok at (length words) (seen by at a)
-seen_ok words by at (ReadAnswer.Read i n) e =
-    let w = read_wide words at i n e in
-    let some = size_positive (limits_of i.op).second in
-    cond_ok at (length words) (registers_below by.registers i) (item_of i.op n) (Item.Bad (broken Rule.register at))
-    (item_ok at (length words) n (control_in i.op) (omega (arith, w.0, some)) w.1) tt
-seen_ok words by at (ReadAnswer.Refused r) e = tt
+seen_ok : (words : List ℕ) (by : Reading) (at : ℕ) (a : Result Fetched Refusal) → read_at words at ≡ a → SeenInCode at (length words) (seen by at a)
+seen_ok words by at (Ok f) e =
+    let w = read_wide words at f.instr f.words e in
+    let some = size_positive (limits_of f.instr.op).second in
+    cond_ok at (length words) (registers_below by.registers f.instr) (Ok (item_of f.instr.op f.words)) (Err (broken Rule.Register at))
+    (item_ok at (length words) f.words (control_in f.instr.op) (omega (arith, w.0, some)) w.1) tt
+seen_ok words by at (Err r) e = tt
 
 pub code_fits : (words : List ℕ) (by : Reading) → Fits (code_of words by)
 unfolding item_at

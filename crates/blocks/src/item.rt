@@ -2,12 +2,12 @@
 ghost use Rattle.std.specs.Prelude.{◌≡◌};
 ghost use Rattle.blocks.specs.Item.{control_item, item_of, item_at};
 
-use fetching::{ControlIn, control_in};
+use fetching::control_in;
 use instructions::instr::{ControlOp, Op};
-use refusals::{REGISTER, Refusal};
-use words::reading::ReadAnswer;
+use instructions::registers::registers_below;
+use refusals::{Refusal, Rule, broken};
 
-// An instruction as far as blocks go: its width where it has no part in them, and the refusal where it is none. BREAK and CONTINUE are jumps.
+// An instruction as far as blocks go: its width where it has no part in them. BREAK and CONTINUE are jumps.
 #[derive(Clone, Copy)]
 pub enum Item {
     Plain(usize),
@@ -17,13 +17,19 @@ pub enum Item {
     Loop,
     Jump,
     Endloop,
-    Bad(Refusal),
 }
 
-// What code is checked for: register numbers below R.
+// What code is checked for: register numbers below R. One number, but a type: theorems speak of it beside a list of words.
 #[derive(Clone, Copy)]
 pub struct Reading {
     pub registers: u32,
+}
+
+// A kernel's code, and what it is checked for.
+#[derive(Clone, Copy)]
+pub struct Code<'a> {
+    pub words: &'a [u32],
+    pub reading: Reading,
 }
 
 // What a control instruction is to the blocks.
@@ -35,12 +41,9 @@ fn control_item(op: ControlOp) -> Item
         ControlOp::Else => Item::Else,
         ControlOp::Endif => Item::Endif,
         ControlOp::Loop => Item::Loop,
-        ControlOp::Break => Item::Jump,
-        ControlOp::Continue => Item::Jump,
+        ControlOp::Break | ControlOp::Continue => Item::Jump,
         ControlOp::Endloop => Item::Endloop,
-        ControlOp::Halt => Item::Plain(1),
-        ControlOp::Barrier => Item::Plain(1),
-        ControlOp::Nop => Item::Plain(1),
+        ControlOp::Halt | ControlOp::Barrier | ControlOp::Nop => Item::Plain(1),
     }
 }
 
@@ -48,31 +51,22 @@ fn control_item(op: ControlOp) -> Item
 fn item_of(op: Op, width: usize) -> Item
     ensures { result ≡ item_of op width }
 {
-    let control = control_in(op);
-    match control {
-        ControlIn::Control(o) => control_item(o),
-        ControlIn::Other => Item::Plain(width),
+    match control_in(op) {
+        Some(o) => control_item(o),
+        None => Item::Plain(width),
     }
 }
 
-// What stands at a place of the code: refusals 4 to 6 as reading gives them (5 past the end), then 7.
-pub fn look(code: &[u32], reading: Reading, at: usize) -> Item
-    ensures { result ≡ item_at code.now reading at }
-{
-    let registers = reading.registers;
-    let answer = words::reading::read_at(code, at);
-    match answer {
-        ReadAnswer::Read { instr, words } => {
-            if instructions::registers::registers_below(instr, registers) {
-                let op = instr.op;
-                item_of(op, words)
-            } else {
-                Item::Bad(Refusal {
-                    number: REGISTER,
-                    place: at,
-                })
-            }
+impl Code<'_> {
+    // What stands at a place: refusals 4 to 6 as reading gives them (5 past the end), then 7.
+    #[tactic(auto, unfolding(crate::specs::Item::item_at))]
+    pub fn look(&self, at: usize) -> Result<Item, Refusal>
+        ensures { result ≡ item_at self.now.words.now self.now.reading at }
+    {
+        let found = words::reading::read_at(self.words, at)?;
+        if !registers_below(found.instr, self.reading.registers) {
+            return Err(broken(Rule::Register, at));
         }
-        ReadAnswer::Refused(refusal) => Item::Bad(refusal),
+        Ok(item_of(found.instr.op, found.words as usize))
     }
 }

@@ -4,87 +4,52 @@ ghost use Rattle.blocks.specs.Code.{code_of};
 ghost use Rattle.blocks.specs.Scan.{check_of};
 ghost use Rattle.blocks.specs.Levels.{LevelSays};
 
-use crate::item::Reading;
-use crate::rules::{Inside, Turn};
-use crate::{item, rules};
+use crate::item::Code;
+use crate::rules::{Part, Turn, judge};
 use lanes::said::DEEPEST;
-use refusals::{Refusal, UNCLOSED};
+use refusals::{Refusal, Rule, broken};
 
-// How a level ends: closed, with the place after its end; refused; or by the end of the code.
-#[derive(Clone, Copy)]
-pub enum LevelEnd {
-    Closed(usize),
-    Refused(Refusal),
-    Ended,
-}
-
-// Whether code passes, or the refusal of the first broken rule.
-#[derive(Clone, Copy)]
-pub enum Checked {
-    Fine,
-    Refused(Refusal),
-}
-
-// One level, from a place on, where so much room is left. A block opened in it is checked by a call of this function, with one less of room.
-fn level(
-    code: &[u32],
-    reading: Reading,
-    from: usize,
-    room: usize,
-    inside: Inside,
-    in_loop: bool,
-) -> LevelEnd
-    requires { from ≤ length code.now }
-    ensures { LevelSays (code_of code.now reading) from room inside in_loop result }
-{
-    let mut at = from;
-    let mut part = inside;
-    while at < code.len() {
-        let item = item::look(code, reading, at);
-        let turn = rules::judge(item, at, room, part, in_loop);
-        match turn {
-            Turn::Go(width, next) => {
-                at = at + width;
-                part = next;
-            }
-            Turn::Close => {
-                let after = at + 1;
-                return LevelEnd::Closed(after);
-            }
-            Turn::Stop(refusal) => {
-                return LevelEnd::Refused(refusal);
-            }
-            Turn::Enter(inner, looped) => {
-                let end = level(code, reading, at + 1, room - 1, inner, looped);
-                match end {
-                    LevelEnd::Closed(next) => {
-                        at = next;
-                    }
-                    LevelEnd::Refused(refusal) => {
-                        return LevelEnd::Refused(refusal);
-                    }
-                    LevelEnd::Ended => {
-                        return LevelEnd::Refused(Refusal {
-                            number: UNCLOSED,
-                            place: at,
-                        });
+impl Code<'_> {
+    // One level, from a place on, where so much room is left: the place after its end, or none where the code ends first. A block opened in it
+    // is checked by a call of this function, with one less of room.
+    fn level(
+        &self,
+        from: usize,
+        room: usize,
+        inside: Option<Part>,
+        in_loop: bool,
+    ) -> Result<Option<usize>, Refusal>
+        requires { from ≤ length self.now.words.now }
+        ensures { LevelSays (code_of self.now.words.now self.now.reading) from room inside in_loop result }
+    {
+        let mut at = from;
+        let mut part = inside;
+        // An instruction has one word or two, and a block many: the places are no range for a `for`.
+        while at < self.words.len() {
+            let item = self.look(at)?;
+            match judge(Ok(item), at, room, part, in_loop)? {
+                Turn::Go(width, next) => {
+                    at += width;
+                    part = next;
+                }
+                Turn::Close => return Ok(Some(at + 1)),
+                Turn::Enter(inner, looped) => {
+                    match self.level(at + 1, room - 1, Some(inner), looped)? {
+                        Some(next) => at = next,
+                        None => return Err(broken(Rule::Unclosed, at)),
                     }
                 }
             }
         }
+        Ok(None)
     }
-    LevelEnd::Ended
-}
 
-// Whether code is well built: refusals 4 to 9 instruction by instruction, then 10; the first broken rule in reading order.
-// The whole code is a level outside every block, which nothing closes.
-pub fn check(code: &[u32], reading: Reading) -> Checked
-    ensures { result ≡ check_of (code_of code.now reading) }
-{
-    let end = level(code, reading, 0, DEEPEST, Inside::Nothing, false);
-    match end {
-        LevelEnd::Closed(_) => Checked::Fine,
-        LevelEnd::Refused(refusal) => Checked::Refused(refusal),
-        LevelEnd::Ended => Checked::Fine,
+    // Whether code is well built: refusals 4 to 9 instruction by instruction, then 10; the first broken rule in reading order.
+    // The whole code is a level outside every block, which nothing closes.
+    pub fn check(&self) -> Result<(), Refusal>
+        ensures { result ≡ check_of (code_of self.now.words.now self.now.reading) }
+    {
+        self.level(0, DEEPEST, None, false)?;
+        Ok(())
     }
 }

@@ -2,13 +2,13 @@
 use mathlib.Core.Path.{◌≡◌, sym, ◌∙◌}
 use Prim.Native.Nat.{ℕ}
 use mathlib.Core.List.{List}
-use lib.ListN.{get_or}
+use Rattle.std.specs.Prelude.{get_or, Result}
+use Rattle.refusals.specs.declared.Refusal.{Refusal}
 use Rattle.lanes.specs.declared.said.Fault.{Fault}
-use Rattle.body.specs.declared.BodyAnswer.{BodyAnswer}
 use Rattle.body.specs.Body.{parts_at, no_fault}
 use Rattle.body.specs.Layout.{body_answer}
 
-pub body_length_once : (bytes : List ℕ) (at : ℕ) (r q : BodyAnswer) → r ≡ body_answer bytes at → q ≡ body_answer bytes at → r ≡ q
+pub body_length_once : (bytes : List ℕ) (at : ℕ) (r q : Result ℕ Refusal) → r ≡ body_answer bytes at → q ≡ body_answer bytes at → r ≡ q
 body_length_once bytes at r q a b = a ∙ sym b
 
 -- what a field says, of `kernel`, `place`, `count` and `depth`

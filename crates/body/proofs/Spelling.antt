@@ -5,6 +5,7 @@ use Prim.Native.Nat.{ℕ, zero, suc, ◌+◌, ◌*◌, ◌-◌, ◌≤◌, ◌<�
 use mathlib.Core.List.{List, [], ◌∷◌, map}
 use mathlib.Core.Bool.{Bool, true, false, not, ◌&&◌, ◌||◌, and-true}
 use native.Mathlib.Omega.{arith}
+use Rattle.std.specs.List.{list_any}
 use lib.Bits.{bit_and, bit_or}
 use lib.Dec.{ltb, eqb}
 use lib.ListN.{length, get_or, drop, length-map, length-drop, drop_of_length-le}
@@ -48,6 +49,12 @@ unfolding all_of spells one_of
 spells_one [] ks h a = refl
 spells_one (l ∷ k) ks h a =
     ap₂ ◌||◌ (same_spelled ks l a (and_left (all_of digit l) _ h)) (spells_one k ks (and_right (all_of digit l) _ h) a)
+
+-- a number is among those that spell the table's lists, or is not
+pub spells_listed : (k : Kinds) (n : ℕ) → list_any (λ (m : ℕ). eqb m n) (map spelled k) ≡ spells k n
+unfolding spells
+spells_listed [] n = refl
+spells_listed (ks ∷ k) n = ap₂ ◌||◌ (same_test _ _ (λ e. eq-eqb _ _ (sym (eqb-true _ _ e))) (λ e. eq-eqb _ _ (sym (eqb-true _ _ e)))) (spells_listed k n)
 
 -- ---- its size
 

@@ -1,14 +1,14 @@
 -- Which bodies are of the layout (page 01, "The key"; kind 6 by page 02): k is the table of the kinds that one fault may have, w the bytes of a set of lanes.
-use Rattle.std.specs.Prelude.{ℕ, ◌+◌, ◌*◌, List, [], ◌∷◌, map, Bool, true, cond, not, ◌&&◌, ◌||◌, leb, eqb, length, drop}
+use Rattle.std.specs.Prelude.{ℕ, ◌+◌, ◌*◌, List, [], ◌∷◌, map, Bool, true, cond, not, ◌&&◌, ◌||◌, leb, eqb, length, drop, Result, Ok, Err}
 use Rattle.std.specs.Int.Bits.{bit_and}
-use Rattle.refusals.specs.Table.{Rule, broken}
+use Rattle.refusals.specs.declared.Refusal.{Refusal}
+use Rattle.refusals.specs.declared.Rule.{Rule}
+use Rattle.refusals.specs.Table.{broken}
 use Rattle.ground.specs.Tests.{one_of, all_of}
 use Rattle.lanes.specs.Blocks.{nesting, before_else, loop_part}
 use Rattle.lanes.specs.declared.said.Block.{Block}
 use Rattle.lanes.specs.declared.said.Fault.{Fault}
 use Rattle.body.specs.Body.{Parts, body_format, set_bytes, size_at}
-use Rattle.body.specs.declared.BodyAnswer.{BodyAnswer}
-use Rattle.body.specs.declared.BodyAnswer.TheVariants.{Length, Refused}
 
 -- ---- what the page fixes
 
@@ -89,5 +89,5 @@ abbrev pub is_body : List ℕ → Bool
 is_body b = is_whole kind_lists set_bytes b
 
 -- the length of the body that starts at `at`, or refusal 14 at its first byte
-unfoldable pub body_answer : List ℕ → ℕ → BodyAnswer
-body_answer s at = cond (starts_body (drop at s)) (Length (size_at (drop at s))) (Refused (broken Rule.not_of_layout at))
+unfoldable pub body_answer : List ℕ → ℕ → Result ℕ Refusal
+body_answer s at = cond (starts_body (drop at s)) (Ok (size_at (drop at s))) (Err (broken Rule.NotOfLayout at))

@@ -3,11 +3,11 @@
 
 pub mod fields;
 
-ghost use Rattle.std.specs.Prelude.{◌≡◌, ◌+◌, ◌*◌, ◌≤◌, length};
+ghost use Rattle.std.specs.Prelude.{◌≡◌, true, ◌+◌, ◌*◌, ◌≤◌, length};
 ghost use Rattle.ground.specs.Tests.{all_of};
 ghost use Rattle.formats.specs.Places.{each};
 ghost use Rattle.body.specs.Body.{Parts, set_bytes, parts_at};
-ghost use Rattle.body.specs.Layout.{block_bytes, kind_lists, faults_fit, block_fits, body_answer};
+ghost use Rattle.body.specs.Layout.{block_bytes, kind_lists, faults_fit, block_fits, is_body, body_answer};
 ghost use Rattle.body.specs.Places.{block_at};
 ghost use Rattle.body.specs.Spelling.{spells, may_precede};
 
@@ -15,7 +15,7 @@ use fields::{BLOCK_BYTES, FAULT_BYTES, HEAD_BYTES, count, depth, fault, place};
 use lanes::Lanes;
 use lanes::said::{BEFORE_ELSE, DEEPEST, Fault, LOOP};
 use numbers::get;
-use refusals::{NOT_OF_LAYOUT, Refusal};
+use refusals::{Refusal, Rule, broken};
 
 const LAST_PLACE: u32 = 65535;
 
@@ -24,30 +24,23 @@ const MOST_KINDS: usize = 3;
 // The length of the longest body.
 pub const LONGEST: usize = HEAD_BYTES + FAULT_BYTES * MOST_KINDS + BLOCK_BYTES * DEEPEST;
 
-// The length of a body, or the refusal.
+// The bytes of a body that is of the layout.
 #[derive(Clone, Copy)]
-pub enum BodyAnswer {
-    Length(usize),
-    Refused(Refusal),
+pub struct Body<'a> {
+    pub bytes: &'a [u8],
+    pub ghost whole: { is_body bytes.now ≡ true },
 }
 
-// Whether a fault may have these kinds: a hexadecimal digit each, the last kind first.
+// The kinds that a fault may have, a hexadecimal digit each, the last kind first.
+const KIND_NUMBERS: [u32; 13] = [
+    0x1, 0x2, 0x3, 0x4, 0x5, 0x21, 0x31, 0x6, 0x61, 0x62, 0x63, 0x621, 0x631,
+];
+
+// Whether a fault may have the kinds that this number spells.
 fn in_table(kinds: u32) -> bool
     ensures { result ≡ spells kind_lists kinds }
 {
-    (kinds == 0x1)
-        | (kinds == 0x2)
-        | (kinds == 0x3)
-        | (kinds == 0x4)
-        | (kinds == 0x5)
-        | (kinds == 0x21)
-        | (kinds == 0x31)
-        | (kinds == 0x6)
-        | (kinds == 0x61)
-        | (kinds == 0x62)
-        | (kinds == 0x63)
-        | (kinds == 0x621)
-        | (kinds == 0x631)
+    KIND_NUMBERS.contains(&kinds)
 }
 
 // Whether a fault kind has lanes, none of them among those `seen`, and is a digit.
@@ -62,20 +55,19 @@ fn may_precede(f: Fault, seen: Lanes) -> bool
 fn faults_fit(bytes: &[u8]) -> bool
     ensures { result ≡ faults_fit kind_lists (parts_at bytes.now).faults }
 {
-    let mut left = count(bytes) as usize;
-    if MOST_KINDS < left {
+    let many = count(bytes) as usize;
+    if MOST_KINDS < many {
         return false;
     }
     let mut kinds: u32 = 0;
     let mut seen: Lanes = 0;
-    while 0 < left {
-        let f = fault(bytes, left - 1);
+    for left in (0..many).rev() {
+        let f = fault(bytes, left);
         if !may_precede(f, seen) {
             return false;
         }
         kinds = 16 * kinds + f.kind;
         seen = f.lanes | seen;
-        left -= 1;
     }
     in_table(kinds)
 }
@@ -99,27 +91,15 @@ fn blocks_fit(bytes: &[u8], p: usize, depth: usize) -> bool
     requires { p + block_bytes set_bytes * depth ≤ length bytes.now }
     ensures { result ≡ all_of block_fits (each (block_at set_bytes bytes.now) (block_bytes set_bytes) p depth) }
 {
-    let mut at = p;
-    let mut left = depth;
-    while 0 < left {
-        if !block_fits(bytes, at) {
-            return false;
-        }
-        at += BLOCK_BYTES;
-        left -= 1;
-    }
-    true
+    (0..depth).all(|k| block_fits(bytes, p + BLOCK_BYTES * k))
 }
 
 // The length of the body that starts at `at`, 32 to 816; or refusal 14, at `at`, where none of the layout starts there.
-pub fn body_length(bytes: &[u8], at: usize) -> BodyAnswer
+pub fn body_length(bytes: &[u8], at: usize) -> Result<usize, Refusal>
     ensures { result ≡ body_answer bytes.now at }
 {
     if bytes.len() < at {
-        return BodyAnswer::Refused(Refusal {
-            number: NOT_OF_LAYOUT,
-            place: at,
-        });
+        return Err(broken(Rule::NotOfLayout, at));
     }
     let body = &bytes[at..];
     let head = HEAD_BYTES + FAULT_BYTES * (count(body) as usize);
@@ -130,16 +110,10 @@ pub fn body_length(bytes: &[u8], at: usize) -> BodyAnswer
         & (blocks <= DEEPEST)
         & (size <= body.len());
     if !fits {
-        return BodyAnswer::Refused(Refusal {
-            number: NOT_OF_LAYOUT,
-            place: at,
-        });
+        return Err(broken(Rule::NotOfLayout, at));
     }
     if !blocks_fit(body, head, blocks) {
-        return BodyAnswer::Refused(Refusal {
-            number: NOT_OF_LAYOUT,
-            place: at,
-        });
+        return Err(broken(Rule::NotOfLayout, at));
     }
-    BodyAnswer::Length(size)
+    Ok(size)
 }

@@ -5,7 +5,7 @@ use mathlib.Core.Bool.{Bool, true, false, ◌&&◌, and_assoc}
 use mathlib.Core.List.{List, [], ◌∷◌, ◌++◌, flatten, append-nil}
 use native.Mathlib.Omega.{arith}
 use lib.Dec.{ltb}
-use lib.ListN.{length, get_or, length-append, length-map}
+use lib.ListN.{length, length-append, length-map}
 use borrow.Author.Tests.{ltb-true, lt-ltb, le-leb, lt-leb}
 use Rattle.ground.specs.Tests.{all_of}
 use Rattle.ground.proofs.Bools.{and_left, and_right, and_both}
@@ -13,12 +13,14 @@ use Rattle.numbers.specs.Numbers.{bound, bytes_of_all, Small}
 use Rattle.numbers.specs.Placed.{placed}
 use Rattle.numbers.proofs.Numerals.{small_nil, small_cons, small_tail, length-bytes_of_all}
 use Rattle.numbers.proofs.Behind.{behind}
-use Rattle.refusals.specs.Table.{Rule, broken}
+use Rattle.refusals.specs.declared.Rule.{Rule}
+use Rattle.refusals.specs.Table.{broken}
 use Rattle.captures.specs.declared.answer.Head.{Head}
-use Rattle.captures.specs.declared.answer.WriteAnswer.TheVariants.{Wrote, Refused}
+use Rattle.captures.specs.declared.answer.Parts.{Parts}
+use Rattle.std.specs.Prelude.{Ok, Err}
 use Rattle.captures.specs.Capture.{mark, edition, setting_count, part_count, header_bytes, Capture, counts_of, numbers_of, capture_of}
-use Rattle.captures.specs.Capture.{in_parts, captured, state_fits, shapely, fits}
-use Rattle.captures.specs.Read.{end_from, place_of}
+use Rattle.captures.specs.Capture.{in_order, in_parts, captured, state_fits, shapely, fits}
+use Rattle.captures.specs.Read.{end_from, place_of, places_in}
 use Rattle.captures.specs.Write.{wrote, write_of}
 use Rattle.captures.proofs.Parts.{end_length, place_end}
 
@@ -68,41 +70,48 @@ module _ (c : Capture) (s : length c.settings ≡ setting_count) (p : length c.p
       let q = place_end (counts_of c.parts) (n ∙ p) in
       omega arith
 
+pub total_so : (head : Head) (parts : List (List ℕ)) (ns : List ℕ) (n : ℕ) → length parts ≡ part_count → n ≡ place_of ns part_count
+    → ns ≡ counts_of parts → n ≡ length (capture_of (captured head parts))
+total_so head parts ns n five e q =
+    e ∙ ap (λ (l : List ℕ). place_of l part_count) q ∙ sym (length_capture (captured head parts) refl five)
+
 -- ---- part by part
 
-module _ (head : Head) (a b c d e o o₁ o₂ o₃ o₄ o₅ o₆ n : List ℕ) (en : n ≡ counts_of (in_parts a b c d e)) where
-  pub laid : (pa pb pc pd pe : ℕ)
+module _ (head : Head) (a b c d e : List ℕ) (n : Parts ℕ) (en : in_order n ≡ counts_of (in_parts a b c d e)) where
+  pub laid : (at : Parts ℕ) → at ≡ places_in (in_order n) → (o o₁ o₂ o₃ o₄ o₅ o₆ : List ℕ)
       → o₁ ≡ placed o 0 (bytes_of_all (mark ∷ edition ∷ head.kernel ∷ head.width ∷ head.registers ∷ head.lanes ∷ head.budget
-      ∷ get_or n 0 0 ∷ get_or n 1 0 ∷ get_or n 2 0 ∷ get_or n 3 0 ∷ get_or n 4 0 ∷ 0 ∷ []))
-      → pa ≡ place_of n 0 → o₂ ≡ placed o₁ pa (bytes_of_all a) → pb ≡ place_of n 1 → o₃ ≡ placed o₂ pb (bytes_of_all b)
-      → pc ≡ place_of n 2 → o₄ ≡ placed o₃ pc (bytes_of_all c) → pd ≡ place_of n 3 → o₅ ≡ placed o₄ pd (bytes_of_all d)
-      → pe ≡ place_of n 4 → o₆ ≡ placed o₅ pe (bytes_of_all e)
+      ∷ n.code ∷ n.registers ∷ n.device ∷ n.local ∷ n.state ∷ 0 ∷ []))
+      → o₂ ≡ placed o₁ at.code (bytes_of_all a) → o₃ ≡ placed o₂ at.registers (bytes_of_all b) → o₄ ≡ placed o₃ at.device (bytes_of_all c)
+      → o₅ ≡ placed o₄ at.local (bytes_of_all d) → o₆ ≡ placed o₅ at.state (bytes_of_all e)
       → o₆ ≡ placed o 0 (capture_of (captured head (in_parts a b c d e)))
-  unfolding capture_of numbers_of place_of end_from flatten
-  laid pa pb pc pd pe e1 qa e2 qb e3 qc e4 qd e5 qe e6 =
-      let kb : pb ≡ pa + 4 * length a = rw en at qb ∙ omega arith in
-      let kc : pc ≡ pb + 4 * length b = rw en at qc ∙ omega arith in
-      let kd : pd ≡ pc + 4 * length c = rw en at qd ∙ omega arith in
-      let ke : pe ≡ pd + 4 * length d = rw en at qe ∙ omega arith in
-      let l6 = e6 ∙ ap (λ (l : List ℕ). placed o₅ pe (bytes_of_all l)) (sym (append-nil e)) in
-      let l5 = behind d (e ++ []) o₄ o₅ o₆ pd pe ke e5 l6 in
-      let l4 = behind c _ o₃ o₄ o₆ pc pd kd e4 l5 in
-      let l3 = behind b _ o₂ o₃ o₆ pb pc kc e3 l4 in
-      let l2 = behind a _ o₁ o₂ o₆ pa pb kb e2 l3 in
-      behind _ _ o o₁ o₆ 0 pa (omega arith) (rw en at e1) l2
+  unfolding capture_of numbers_of places_in place_of end_from flatten
+  laid at ea o o₁ o₂ o₃ o₄ o₅ o₆ e1 e2 e3 e4 e5 e6 =
+      let places : at ≡ places_in (counts_of (in_parts a b c d e)) = ea ∙ ap places_in en in
+      let ka : at.code ≡ header_bytes = ap (λ (p : Parts ℕ). p.code) places in
+      let kb : at.registers ≡ at.code + 4 * length a = ap (λ (p : Parts ℕ). p.registers) places ∙ omega arith in
+      let kc : at.device ≡ at.registers + 4 * length b = ap (λ (p : Parts ℕ). p.device) places ∙ omega arith in
+      let kd : at.local ≡ at.device + 4 * length c = ap (λ (p : Parts ℕ). p.local) places ∙ omega arith in
+      let ke : at.state ≡ at.local + 4 * length d = ap (λ (p : Parts ℕ). p.state) places ∙ omega arith in
+      let l6 = e6 ∙ ap (λ (l : List ℕ). placed o₅ at.state (bytes_of_all l)) (sym (append-nil e)) in
+      let l5 = behind d (e ++ []) o₄ o₅ o₆ at.local at.state ke e5 l6 in
+      let l4 = behind c _ o₃ o₄ o₆ at.device at.local kd e4 l5 in
+      let l3 = behind b _ o₂ o₃ o₆ at.registers at.device kc e3 l4 in
+      let l2 = behind a _ o₁ o₂ o₆ at.code at.registers kb e2 l3 in
+      let header = ap (λ (l : List ℕ). placed o 0 (bytes_of_all (mark ∷ edition ∷ head.kernel ∷ head.width ∷ head.registers ∷ head.lanes ∷ head.budget ∷ (l ++ (0 ∷ []))))) en in
+      behind _ _ o o₁ o₆ 0 at.code (omega arith) (e1 ∙ header) l2
 
 -- ---- the answer
 
 module _ (c : Capture) (o : List ℕ) where
-  pub write_not : fits c.parts ≡ false → wrote (Refused (broken Rule.not_of_layout 0)) o ≡ write_of c o
+  pub write_not : fits c.parts ≡ false → wrote (Err (broken Rule.NotOfLayout 0)) o ≡ write_of c o
   unfolding write_of
   write_not e = rw e
 
-  pub write_short : fits c.parts ≡ true → length o < length (capture_of c) → wrote (Refused (broken Rule.short 0)) o ≡ write_of c o
+  pub write_short : (n : ℕ) → fits c.parts ≡ true → n ≡ length (capture_of c) → length o < n → wrote (Err (broken Rule.Short 0)) o ≡ write_of c o
   unfolding write_of
-  write_short e h = rw (e, lt-leb (length (capture_of c)) (length o) h)
+  write_short n e q h = rw (e, lt-leb (length (capture_of c)) (length o) (omega arith))
 
   pub write_so : (n : ℕ) (x : List ℕ) → fits c.parts ≡ true → n ≡ length (capture_of c) → n ≤ length o → x ≡ placed o 0 (capture_of c)
-      → wrote (Wrote n) x ≡ write_of c o
+      → wrote (Ok n) x ≡ write_of c o
   unfolding write_of
   write_so n x e q h p = rw (e, le-leb (length (capture_of c)) (length o) (omega arith), p, q)

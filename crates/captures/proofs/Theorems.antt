@@ -14,29 +14,27 @@ use Rattle.ground.proofs.Tests.{true_or_false}
 use Rattle.numbers.specs.Numbers.{Bytes, Small}
 use Rattle.numbers.proofs.Placing.{placed_front}
 use Rattle.refusals.specs.declared.Refusal.{Refusal}
-use Rattle.refusals.specs.Table.{Rule as Page, broken}
+use Rattle.refusals.specs.declared.Rule.{Rule as Page}
+use Rattle.refusals.specs.Table.{broken}
 use Rattle.captures.specs.declared.answer.Head.{Head}
-use Rattle.captures.specs.declared.answer.Counts.{Counts}
-use Rattle.captures.specs.declared.answer.Rule.{Rule}
-use Rattle.captures.specs.declared.answer.ReadAnswer.TheVariants.{Read, Unreadable}
-use Rattle.captures.specs.declared.answer.WriteAnswer.TheVariants.{Wrote, Refused}
-use Rattle.captures.specs.declared.testing.Verdict.{Verdict}
-use Rattle.captures.specs.declared.testing.Verdict.TheVariants.{Fine, Broken}
+use Rattle.captures.specs.declared.answer.Parts.{Parts}
+use Rattle.captures.specs.declared.answer.Unreadable.{Unreadable}
+use Rattle.std.specs.Prelude.{Result, Ok, Err}
 use Rattle.captures.specs.Capture.{setting_count, part_count, Capture, counts_of, capture_of, head_in, counts_in, fits, Filed}
 use Rattle.captures.specs.Write.{Writing, write_of}
-use Rattle.captures.specs.Read.{capture_in, verdict_of, Within, filled, reading, judged, read_of}
+use Rattle.captures.specs.Read.{Verdict, fine, capture_in, verdict_of, Within, filled, told, reading, judged, read_of}
 use Rattle.captures.proofs.Laid.{write_so}
 use Rattle.captures.proofs.Accepted.{accepted, is_accepted, read_fine}
 use Rattle.captures.proofs.Files.{counts_in_lem, counts_back, capture_back, file_accepted, file_back, file_filed, filed_fits, fits_filed}
 
 -- THEOREM: the file of a capture is read as that capture, wherever there is room for it ...
 pub read_back : (c : Capture) → Filed c → (l : List (List ℕ)) → Within (counts_of c.parts) (counts_of l)
-    → read_of (capture_of c) l ≡ reading (Read (head_in c.settings) (counts_in (counts_of c.parts))) (filled c.parts l)
+    → read_of (capture_of c) l ≡ reading (told (head_in c.settings) (counts_in (counts_of c.parts))) (filled c.parts l)
 read_back c g l w =
     let v = is_accepted (capture_of c) (counts_of l) (file_accepted c g (counts_of l) w) in
     let back = sym (capture_back c g) in
-    sym (read_fine (capture_of c) l Fine (sym v) _ _ _ _ refl (ap (λ (d : Capture). filled d.parts l) back)
-    (ap (λ (d : Capture). head_in d.settings) back) (sym (counts_back c g)) refl)
+    sym (read_fine (capture_of c) l _ _ _ (sym v) (ap (λ (d : Capture). filled d.parts l) back)
+    (ap (λ (d : Capture). head_in d.settings) back) (ap counts_in (sym (counts_back c g))))
 
 -- the front of a buffer that a file was written to
 written_front : (c : Capture) (o : List ℕ) → fits c.parts ≡ true → length (capture_of c) ≤ length o
@@ -48,8 +46,8 @@ written_front c o e h =
 
 -- ... and that file is what stands in a buffer that it was written to
 pub write_read : (c : Capture) → Filed c → (o : List ℕ) → length (capture_of c) ≤ length o → (l : List (List ℕ)) → Within (counts_of c.parts) (counts_of l)
-    → ((write_of c o).answer ≡ Wrote (length (capture_of c)))
-    × (read_of (take (length (capture_of c)) (write_of c o).file) l ≡ reading (Read (head_in c.settings) (counts_in (counts_of c.parts))) (filled c.parts l))
+    → ((write_of c o).answer ≡ Ok (length (capture_of c)))
+    × (read_of (take (length (capture_of c)) (write_of c o).file) l ≡ reading (told (head_in c.settings) (counts_in (counts_of c.parts))) (filled c.parts l))
 write_read c g o h l w =
     let e = filed_fits c g in
     let answer = ap (λ (x : Writing). x.answer) (sym (write_so c o _ _ e refl h refl)) in
@@ -69,12 +67,12 @@ pub record Given (f rooms : List ℕ) : Type 0 where
   pub file : capture_of capture ≡ f
 
 -- THEOREM: the files that break no rule are those of captures that there is room for ...
-pub accepted_given : (f rooms : List ℕ) → Bytes f → verdict_of f rooms ≡ Fine → Given f rooms
+pub accepted_given : (f rooms : List ℕ) → Bytes f → verdict_of f rooms ≡ fine → Given f rooms
 accepted_given f rooms by e =
     let a = accepted f rooms e in
     record { capture = capture_in f; filed = file_filed f by rooms a; within = rw (counts_in_lem f) a.within; file = file_back f by rooms a }
 
-pub given_accepted : (f rooms : List ℕ) → Given f rooms → verdict_of f rooms ≡ Fine
+pub given_accepted : (f rooms : List ℕ) → Given f rooms → verdict_of f rooms ≡ fine
 given_accepted f rooms g =
     let c = g.capture in
     ap (λ (x : List ℕ). verdict_of x rooms) (sym g.file) ∙ is_accepted (capture_of c) rooms (file_accepted c g.filed rooms g.within)
@@ -84,25 +82,25 @@ pub given_once : (f rooms : List ℕ) (g h : Given f rooms) → g.capture ≡ h.
 given_once f rooms g h = one_capture g.capture h.capture g.filed h.filed (g.file ∙ sym h.file)
 
 -- ... and reading answers that capture
-read_tells : (v : Verdict) (f : List ℕ) (l : List (List ℕ)) (h : Head) (n : Counts) → (judged v f l).answer ≡ Read h n → v ≡ Fine
+read_tells : (v : Verdict) (f : List ℕ) (l : List (List ℕ)) (h : Head) (n : Parts ℕ) → (judged v f l).answer ≡ told h n → v ≡ fine
 unfolding judged
-read_tells Fine f l h n e = refl
-read_tells (Broken r p) f l h n e = absurd (let z : ◌≡◌ {A = ℕ} 0 1 = cc in omega arith)
+read_tells (Ok tt) f l h n e = refl
+read_tells (Err u) f l h n e = absurd cc
 
-pub read_given : (f : List ℕ) (l : List (List ℕ)) (h : Head) (n : Counts) → Bytes f → (read_of f l).answer ≡ Read h n → Given f (counts_of l)
+pub read_given : (f : List ℕ) (l : List (List ℕ)) (h : Head) (n : Parts ℕ) → Bytes f → (read_of f l).answer ≡ told h n → Given f (counts_of l)
 unfolding read_of
 read_given f l h n by e = accepted_given f (counts_of l) by (read_tells (verdict_of f (counts_of l)) f l h n e)
 
 pub given_read : (f : List ℕ) (l : List (List ℕ)) (g : Given f (counts_of l))
-    → read_of f l ≡ reading (Read (head_in g.capture.settings) (counts_in (counts_of g.capture.parts))) (filled g.capture.parts l)
+    → read_of f l ≡ reading (told (head_in g.capture.settings) (counts_in (counts_of g.capture.parts))) (filled g.capture.parts l)
 given_read f l g = ap (λ (x : List ℕ). read_of x l) (sym g.file) ∙ read_back g.capture g.filed l g.within
 
 -- ---- written files
 
-refused_unwritten : (r : Refusal) (n : ℕ) → Refused r ≡ Wrote n → ⊥
-refused_unwritten r n e = let z : ◌≡◌ {A = ℕ} 0 1 = cc in omega arith
+refused_unwritten : (r : Refusal) (n : ℕ) → ◌≡◌ {A = Result ℕ Refusal} (Err r) (Ok n) → ⊥
+refused_unwritten r n e = cc
 
-write_tells : (c : Capture) (o : List ℕ) (n : ℕ) → (write_of c o).answer ≡ Wrote n
+write_tells : (c : Capture) (o : List ℕ) (n : ℕ) → (write_of c o).answer ≡ Ok n
     → (fits c.parts ≡ true) × (length (capture_of c) ≤ length o) × (length (capture_of c) ≡ n)
 unfolding write_of
 write_tells c o n e =
@@ -110,16 +108,16 @@ write_tells c o n e =
     (λ (h : fits c.parts ≡ true).
     ⊎_elim
     (λ (k : leb (length (capture_of c)) (length o) ≡ true).
-    let y : Wrote (length (capture_of c)) ≡ Wrote n = simp (h, k) at e in
+    let y : ◌≡◌ {A = Result ℕ Refusal} (Ok (length (capture_of c))) (Ok n) = simp (h, k) at e in
     (h, leb-true _ _ k, cc))
-    (λ (k : leb (length (capture_of c)) (length o) ≡ false). absurd (refused_unwritten (broken Page.short 0) n (simp (h, k) at e)))
+    (λ (k : leb (length (capture_of c)) (length o) ≡ false). absurd (refused_unwritten (broken Page.Short 0) n (simp (h, k) at e)))
     (true_or_false (leb (length (capture_of c)) (length o))))
-    (λ (h : fits c.parts ≡ false). absurd (refused_unwritten (broken Page.not_of_layout 0) n (simp h at e)))
+    (λ (h : fits c.parts ≡ false). absurd (refused_unwritten (broken Page.NotOfLayout 0) n (simp h at e)))
     (true_or_false (fits c.parts))
 
 -- THEOREM: what was written is the file of a capture, for numbers of four bytes
 pub written_given : (c : Capture) (o : List ℕ) (n : ℕ) → length c.settings ≡ setting_count → length c.parts ≡ part_count → Small c.settings
-    → Small (flatten c.parts) → (write_of c o).answer ≡ Wrote n → Given (take n (write_of c o).file) (counts_of c.parts)
+    → Small (flatten c.parts) → (write_of c o).answer ≡ Ok n → Given (take n (write_of c o).file) (counts_of c.parts)
 written_given c o n s p h w e =
     let t = write_tells c o n e in
     record {
@@ -132,22 +130,22 @@ written_given c o n s p h w e =
 -- ---- refusals
 
 -- a file that is refused changes nothing
-refusal_keeps : (v : Verdict) (f : List ℕ) (l : List (List ℕ)) (r : Rule) (p : ℕ) → (judged v f l).answer ≡ Unreadable r p → (judged v f l).after ≡ l
+refusal_keeps : (v : Verdict) (f : List ℕ) (l : List (List ℕ)) (u : Unreadable) → (judged v f l).answer ≡ Err u → (judged v f l).after ≡ l
 unfolding judged
-refusal_keeps Fine f l r p e = absurd (let z : ◌≡◌ {A = ℕ} 0 1 = cc in omega arith)
-refusal_keeps (Broken s q) f l r p e = refl
+refusal_keeps (Ok _) f l u e = absurd cc
+refusal_keeps (Err _) f l u e = refl
 
-pub read_refused_keeps : (f : List ℕ) (l : List (List ℕ)) (r : Rule) (p : ℕ) → (read_of f l).answer ≡ Unreadable r p → (read_of f l).after ≡ l
+pub read_refused_keeps : (f : List ℕ) (l : List (List ℕ)) (u : Unreadable) → (read_of f l).answer ≡ Err u → (read_of f l).after ≡ l
 unfolding read_of
-read_refused_keeps f l r p e = refusal_keeps (verdict_of f (counts_of l)) f l r p e
+read_refused_keeps f l u e = refusal_keeps (verdict_of f (counts_of l)) f l u e
 
 -- nor does a capture that isn't written
-pub write_refused_keeps : (c : Capture) (o : List ℕ) (r : Refusal) → (write_of c o).answer ≡ Refused r → (write_of c o).file ≡ o
+pub write_refused_keeps : (c : Capture) (o : List ℕ) (r : Refusal) → (write_of c o).answer ≡ Err r → (write_of c o).file ≡ o
 unfolding write_of
 write_refused_keeps c o r =
-    cond_by (λ (w : Writing). w.answer ≡ Refused r → w.file ≡ o) (fits c.parts) _ _
+    cond_by (λ (w : Writing). w.answer ≡ Err r → w.file ≡ o) (fits c.parts) _ _
     (λ h.
-    cond_by (λ (w : Writing). w.answer ≡ Refused r → w.file ≡ o) (leb (length (capture_of c)) (length o)) _ _
+    cond_by (λ (w : Writing). w.answer ≡ Err r → w.file ≡ o) (leb (length (capture_of c)) (length o)) _ _
     (λ k e. absurd (refused_unwritten r (length (capture_of c)) (sym e)))
     (λ k e. refl))
     (λ h e. refl)

@@ -1,11 +1,13 @@
 -- The capture file: everything that a run takes, packed as numbers of four bytes, low byte first (house).
 use Rattle.std.specs.Prelude.{ℕ, ◌+◌, ◌*◌, ◌≡◌, Bool, true, ◌&&◌, ◌||◌, ltb, eqb, length, get_or}
+use Rattle.std.proofs.Common.{Bor, MutBor}
 use mathlib.Core.List.{List, [], ◌∷◌, ◌++◌, map, flatten}
 use Rattle.ground.specs.Tests.{all_of}
 use Rattle.numbers.specs.Numbers.{bound, bytes_of_all, Small}
 use Rattle.packing.specs.Words.{depth_word, state_size}
 use Rattle.captures.specs.declared.answer.Head.{Head}
-use Rattle.captures.specs.declared.answer.Counts.{Counts}
+use Rattle.captures.specs.declared.answer.Parts.{Parts}
+use Rattle.captures.specs.declared.answer.Part.{Part}
 
 -- ---- what is fixed
 
@@ -74,13 +76,34 @@ head_in s = record { kernel = get_or s 0 0; width = get_or s 1 0; registers = ge
 abbrev pub settings_of : Head → List ℕ
 settings_of h = h.kernel ∷ h.width ∷ h.registers ∷ h.lanes ∷ h.budget ∷ []
 
--- the counts by name
-unfoldable pub counts_in : List ℕ → Counts
+-- the counts by name, and one of each part in the file's order
+unfoldable pub counts_in : List ℕ → Parts ℕ
 counts_in n = record { code = get_or n 0 0; registers = get_or n 1 0; device = get_or n 2 0; local = get_or n 3 0; state = get_or n state_part 0 }
 
--- the parts
+abbrev pub in_order : Parts ℕ → List ℕ
+in_order p = p.code ∷ p.registers ∷ p.device ∷ p.local ∷ p.state ∷ []
+
+-- where the header has a part's count
+abbrev pub count_place : Part → ℕ
+count_place Part.Code = counts_place
+count_place Part.Registers = counts_place + 4
+count_place Part.Device = counts_place + 8
+count_place Part.Local = counts_place + 12
+count_place Part.State = counts_place + 4 * state_part
+
+-- the words of the parts
 abbrev pub in_parts : List ℕ → List ℕ → List ℕ → List ℕ → List ℕ → List (List ℕ)
 in_parts code registers device local state = code ∷ registers ∷ device ∷ local ∷ state ∷ []
+
+-- of words that are given, of buffers as they were lent, and of buffers as they are left
+abbrev pub words_in : Parts (Bor (List ℕ)) → List (List ℕ)
+words_in p = in_parts p.code.now p.registers.now p.device.now p.local.now p.state.now
+
+abbrev pub lent_in : Parts (MutBor (List ℕ)) → List (List ℕ)
+lent_in p = in_parts p.code.now p.registers.now p.device.now p.local.now p.state.now
+
+abbrev pub left_in : MutBor (List ℕ) × (MutBor (List ℕ) × (MutBor (List ℕ) × (MutBor (List ℕ) × (MutBor (List ℕ) × Unit {0})))) → List (List ℕ)
+left_in p = in_parts p.0.now p.1.0.now p.1.1.0.now p.1.1.1.0.now p.1.1.1.1.0.now
 
 -- the capture of these settings and parts
 abbrev pub captured : Head → List (List ℕ) → Capture

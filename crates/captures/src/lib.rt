@@ -23,24 +23,13 @@ const SETTINGS: usize = 5;
 
 const PARTS: usize = 5;
 
-// Which part each is.
-pub const CODE: usize = 0;
-
-pub const REGISTERS: usize = 1;
-
-pub const DEVICE: usize = 2;
-
-pub const LOCAL: usize = 3;
-
-const STATE: usize = 4;
-
 // Where the header's numbers stand behind the mark, four bytes each: the edition, the settings, the counts of words of each part, and a
 // sixth count.
 const EDITION_PLACE: usize = 4;
 
 const SETTINGS_PLACE: usize = EDITION_PLACE + 4;
 
-pub const COUNTS_PLACE: usize = SETTINGS_PLACE + 4 * SETTINGS;
+const COUNTS_PLACE: usize = SETTINGS_PLACE + 4 * SETTINGS;
 
 const SIXTH_PLACE: usize = COUNTS_PLACE + 4 * PARTS;
 

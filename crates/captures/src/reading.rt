@@ -1,75 +1,43 @@
 // Reading a capture file.
-ghost use Rattle.std.specs.Prelude.{◌≡◌, [], ◌<◌, get_or};
+ghost use Rattle.std.specs.Prelude.{◌≡◌};
+ghost use Rattle.numbers.specs.Numbers.{numbers_at};
 ghost use Rattle.numbers.specs.Placed.{placed};
-ghost use Rattle.captures.specs.Capture.{part_count, in_parts};
-ghost use Rattle.captures.specs.Read.{parts_in, filled, reading, read_of};
+ghost use Rattle.captures.specs.Capture.{lent_in, left_in};
+ghost use Rattle.captures.specs.Read.{reading, read_of};
 
-use crate::answer::ReadAnswer;
-use crate::testing::{Verdict, counted, counts_of, head_of, place_of, verdict_of};
-use crate::{CODE, DEVICE, LOCAL, REGISTERS, STATE};
-use numbers::{get_words, smaller};
+use crate::answer::{Capture, Parts, Unreadable};
+use crate::testing::{counts_of, head_of, places_of, verdict_of};
+use numbers::get_words;
 
-// The words of a file's part, at the start of `out`, as far as they fit.
-fn take_part(file: &[u8], part: usize, out: &mut [u32])
-    requires { part < part_count }
-    ensures { out.new ≡ placed out.old 0 (get_or (parts_in file.now) part []) }
+// The words of a part, of which there are so many from `at` on, at the start of `out`, as far as they fit.
+fn take_part(file: &[u8], at: usize, count: u32, out: &mut [u32])
+    ensures { out.new ≡ placed out.old 0 (numbers_at file.now at count) }
 {
-    let n = counts_of(file);
-    let at = place_of(n, part);
-    let count = smaller(n[part] as usize, out.len());
+    let count = out.len().min(count as usize);
     get_words(file, at, &mut out[..count]);
-}
-
-// The words of a capture file, each part's at the start of its buffer, as far as they fit.
-fn take_parts(
-    file: &[u8],
-    code: &mut [u32],
-    registers: &mut [u32],
-    device: &mut [u32],
-    local: &mut [u32],
-    state: &mut [u32],
-)
-    ensures { in_parts code.new registers.new device.new local.new state.new
-        ≡ filled (parts_in file.now)
-        (in_parts code.old registers.old device.old local.old state.old) }
-{
-    take_part(file, CODE, code);
-    take_part(file, REGISTERS, registers);
-    take_part(file, DEVICE, device);
-    take_part(file, LOCAL, local);
-    take_part(file, STATE, state);
 }
 
 // Reads a capture file: its kernel number and settings, and how many words it has of each part; these stand at the start of each
 // buffer, whose rest stays as lent. A file that is no capture, or has more words than there is room for, is answered by the first
 // broken rule and its place, and changes nothing.
-pub fn read(
-    file: &[u8],
-    code: &mut [u32],
-    registers: &mut [u32],
-    device: &mut [u32],
-    local: &mut [u32],
-    state: &mut [u32],
-) -> ReadAnswer
-    ensures { reading result (in_parts code.new registers.new device.new local.new state.new)
-        ≡ read_of file.now
-        (in_parts code.old registers.old device.old local.old state.old) }
+pub fn read(file: &[u8], lent: Parts<&mut [u32]>) -> Result<Capture, Unreadable>
+    ensures { reading result (left_in lent.exit) ≡ read_of file.now (lent_in lent.entry) }
 {
-    let rooms = [
-        code.len(),
-        registers.len(),
-        device.len(),
-        local.len(),
-        state.len(),
-    ];
-    match verdict_of(file, rooms) {
-        Verdict::Broken { rule, place } => ReadAnswer::Unreadable { rule, place },
-        Verdict::Fine => {
-            take_parts(file, code, registers, device, local, state);
-            ReadAnswer::Read {
-                head: head_of(file),
-                counts: counted(counts_of(file)),
-            }
-        }
-    }
+    let rooms = Parts {
+        code: lent.code.len(),
+        registers: lent.registers.len(),
+        device: lent.device.len(),
+        local: lent.local.len(),
+        state: lent.state.len(),
+    };
+    verdict_of(file, rooms)?;
+    let head = head_of(file);
+    let counts = counts_of(file);
+    let at = places_of(counts);
+    take_part(file, at.code, counts.code, lent.code);
+    take_part(file, at.registers, counts.registers, lent.registers);
+    take_part(file, at.device, counts.device, lent.device);
+    take_part(file, at.local, counts.local, lent.local);
+    take_part(file, at.state, counts.state, lent.state);
+    Ok(Capture { head, counts })
 }

@@ -1,27 +1,21 @@
 // Whether bytes are a capture file: what their header says, and the first broken rule.
-ghost use Rattle.std.specs.Prelude.{◌≡◌, ◌+◌, ◌*◌, ◌≤◌};
+ghost use Rattle.std.specs.Prelude.{◌≡◌, ◌+◌, ◌*◌, ◌≤◌, ◌∷◌, []};
 ghost use Rattle.numbers.specs.Numbers.{bound};
-ghost use Rattle.captures.specs.Capture.{part_count, counts_place, header_bytes, head_in, counts_in};
-ghost use Rattle.captures.specs.Read.{settings_at, counts_at, place_of, next as nextVerdict, depth_of};
-ghost use Rattle.captures.specs.Read.{test_head, test_rooms, test_state, verdict_of};
+ghost use Rattle.captures.specs.Capture.{part_count, header_bytes, head_in, counts_in, in_order};
+ghost use Rattle.captures.specs.Read.{settings_at, counts_at, place_of, places_in, next, depth_of};
+ghost use Rattle.captures.specs.Read.{fine, part_order, test_head, test_rooms, test_state, verdict_of};
 
-use crate::answer::{Counts, Head, Rule};
+use crate::answer::{Head, Part, Parts, Rule, Unreadable};
 use crate::{
-    CODE, COUNTS_PLACE, DEVICE, EDITION, EDITION_PLACE, HEADER_BYTES, LOCAL, MARK, PARTS,
-    REGISTERS, SETTINGS, SETTINGS_PLACE, SIXTH_PLACE, STATE,
+    COUNTS_PLACE, EDITION, EDITION_PLACE, HEADER_BYTES, MARK, PARTS, SETTINGS, SETTINGS_PLACE,
+    SIXTH_PLACE,
 };
-use numbers::{get, get_words, smaller};
+use numbers::{get, get_words};
 use packing::{DEPTH_WORD, HOT_WORDS};
 use wave::state::BLOCK_NUMBERS;
 
-// The first broken rule and its place, or none.
-#[derive(Clone, Copy)]
-pub(crate) enum Verdict {
-    Fine,
-    Broken { rule: Rule, place: usize },
-}
-
 // Kernel number and settings.
+#[tactic(auto, unfolding(crate::specs::Capture::head_in, crate::specs::Read::settings_at))]
 pub(crate) fn head_of(file: &[u8]) -> Head
     ensures { result ≡ head_in (settings_at file.now) }
 {
@@ -37,133 +31,121 @@ pub(crate) fn head_of(file: &[u8]) -> Head
 }
 
 // The counts of words.
-pub(crate) fn counts_of(file: &[u8]) -> [u32; PARTS]
-    ensures { result ≡ counts_at file.now }
+#[tactic(auto, unfolding(crate::specs::Capture::counts_in, crate::specs::Read::counts_at))]
+pub(crate) fn counts_of(file: &[u8]) -> Parts<u32>
+    ensures { result ≡ counts_in (counts_at file.now) }
 {
     let mut n = [0u32; PARTS];
     get_words(file, COUNTS_PLACE, &mut n);
-    n
-}
-
-// Counts by name.
-pub(crate) fn counted(n: [u32; PARTS]) -> Counts
-    ensures { result ≡ counts_in n }
-{
-    Counts {
-        code: n[CODE] as usize,
-        registers: n[REGISTERS] as usize,
-        device: n[DEVICE] as usize,
-        local: n[LOCAL] as usize,
-        state: n[STATE] as usize,
+    Parts {
+        code: n[0],
+        registers: n[1],
+        device: n[2],
+        local: n[3],
+        state: n[4],
     }
 }
 
-// Where a part begins, with these counts; behind the last part the file ends. Counts of four bytes keep it small.
-pub(crate) fn place_of(n: [u32; PARTS], part: usize) -> usize
-    requires { part ≤ part_count }
-    ensures { (result ≡ place_of n part) × (result ≤ header_bytes + 4 * bound * part_count) }
+// Where each part begins, with these counts.
+#[tactic(auto, unfolding(crate::specs::Read::places_in, crate::specs::Read::place_of, crate::specs::Read::end_from))]
+pub(crate) fn places_of(n: Parts<u32>) -> Parts<usize>
+    ensures { result ≡ places_in (in_order n) }
 {
-    let mut at = HEADER_BYTES;
-    let mut k: usize = 0;
-    while k < part {
-        at += 4 * (n[k] as usize);
-        k += 1;
+    let registers = HEADER_BYTES + 4 * (n.code as usize);
+    let device = registers + 4 * (n.registers as usize);
+    let local = device + 4 * (n.device as usize);
+    let state = local + 4 * (n.local as usize);
+    Parts {
+        code: HEADER_BYTES,
+        registers,
+        device,
+        local,
+        state,
     }
-    at
 }
 
-// The first broken rule, after this one is tested.
-fn next(first: Verdict, holds: bool, rule: Rule, place: usize) -> Verdict
-    ensures { result ≡ nextVerdict first holds rule place }
+// Where the last part ends, and the file with it. Counts of four bytes keep it small.
+#[tactic(auto, unfolding(crate::specs::Read::places_in, crate::specs::Read::place_of, crate::specs::Read::end_from))]
+pub(crate) fn end_of(n: Parts<u32>) -> usize
+    ensures end { result ≡ place_of (in_order n) part_count }
+    ensures small { result ≤ header_bytes + 4 * bound * part_count }
 {
-    match first {
-        Verdict::Broken { rule: r, place: p } => Verdict::Broken { rule: r, place: p },
-        Verdict::Fine => if holds {
-            Verdict::Fine
-        } else {
-            Verdict::Broken { rule, place }
-        },
+    places_of(n).state + 4 * (n.state as usize)
+}
+
+// Whether a rule holds, or else that it is broken.
+#[tactic(auto, unfolding(crate::specs::Read::next))]
+fn hold(holds: bool, rule: Rule, place: usize) -> Result<(), Unreadable>
+    ensures { result ≡ next fine holds rule place }
+{
+    if holds {
+        Ok(())
+    } else {
+        Err(Unreadable { rule, place })
     }
 }
 
 // The depth that a state's count gives.
+#[tactic(auto, unfolding(crate::specs::Read::depth_of))]
 fn depth_of(count: usize) -> usize
     ensures { result ≡ depth_of count }
 {
-    if count < HOT_WORDS {
-        0
-    } else {
-        (count - HOT_WORDS) / BLOCK_NUMBERS
-    }
+    count.saturating_sub(HOT_WORDS) / BLOCK_NUMBERS
 }
 
 // Mark and edition, as soon as they are there, then the whole header.
-fn test_head(file: &[u8]) -> Verdict
+#[tactic(auto, using(crate::proofs::Tested::stays), unfolding(crate::specs::Read::test_head))]
+fn test_head(file: &[u8]) -> Result<(), Unreadable>
     ensures { result ≡ test_head file.now }
 {
     let n = file.len();
-    let mark = next(
-        Verdict::Fine,
-        (n < EDITION_PLACE) | (get(file, 0) == MARK),
-        Rule::Mark,
-        0,
-    );
-    let edition = next(
-        mark,
+    hold((n < EDITION_PLACE) | (get(file, 0) == MARK), Rule::Mark, 0)?;
+    hold(
         (n < SETTINGS_PLACE) | (get(file, EDITION_PLACE) == EDITION),
         Rule::Edition,
         EDITION_PLACE,
-    );
-    next(edition, HEADER_BYTES <= n, Rule::Header, 4 * (n / 4))
+    )?;
+    hold(HEADER_BYTES <= n, Rule::Header, 4 * (n / 4))
 }
 
-// Room for each count.
-fn test_rooms(first: Verdict, n: [u32; PARTS], rooms: [usize; PARTS]) -> Verdict
-    ensures { result ≡ test_rooms first counts_place n rooms }
+// Room for a part's words.
+#[tactic(auto, unfolding(crate::specs::Read::test_rooms))]
+fn test_room(part: Part, count: u32, room: usize) -> Result<(), Unreadable>
+    ensures { result ≡ test_rooms fine (part ∷ []) (count ∷ []) (room ∷ []) }
 {
-    let mut verdict = first;
-    let mut k: usize = 0;
-    while k < PARTS {
-        verdict = next(
-            verdict,
-            n[k] as usize <= rooms[k],
-            Rule::Room,
-            COUNTS_PLACE + 4 * k,
-        );
-        k += 1;
-    }
-    verdict
+    hold(count as usize <= room, Rule::Room(part), part.count_place())
+}
+
+// Room for the words of each part.
+#[tactic(auto, using(crate::proofs::Tested::room_first, crate::proofs::Tested::rooms_stay))]
+fn test_rooms(n: Parts<u32>, rooms: Parts<usize>) -> Result<(), Unreadable>
+    ensures { result ≡ test_rooms fine part_order (in_order n) (in_order rooms) }
+{
+    test_room(Part::Code, n.code, rooms.code)?;
+    test_room(Part::Registers, n.registers, rooms.registers)?;
+    test_room(Part::Device, n.device, rooms.device)?;
+    test_room(Part::Local, n.local, rooms.local)?;
+    test_room(Part::State, n.state, rooms.state)
 }
 
 // The state's count, the sixth count, the file's end and the state's depth.
-fn test_state(first: Verdict, file: &[u8]) -> Verdict
-    ensures { result ≡ test_state first file.now }
+#[tactic(auto, using(crate::proofs::Tested::stays, crate::proofs::Tested::depth_small, crate::proofs::Parts::ordered), unfolding(crate::specs::Read::test_state, crate::specs::Read::places_in, crate::specs::Read::place_of, crate::specs::Read::end_from))]
+fn test_state(file: &[u8]) -> Result<(), Unreadable>
+    ensures { result ≡ test_state fine file.now }
 {
     let n = counts_of(file);
-    let count = n[STATE] as usize;
+    let count = n.state as usize;
     let depth = depth_of(count);
-    let depth_at = place_of(n, STATE) + 4 * DEPTH_WORD;
-    let end_at = place_of(n, PARTS);
-    let shape = next(
-        first,
+    let depth_at = places_of(n).state + 4 * DEPTH_WORD;
+    let end = end_of(n);
+    hold(
         (count == 0) | (count == HOT_WORDS + BLOCK_NUMBERS * depth),
         Rule::StateCount,
-        COUNTS_PLACE + 4 * STATE,
-    );
-    let sixth = next(
-        shape,
-        get(file, SIXTH_PLACE) == 0,
-        Rule::SixthCount,
-        SIXTH_PLACE,
-    );
-    let end = next(
-        sixth,
-        file.len() == end_at,
-        Rule::Length,
-        smaller(file.len(), end_at),
-    );
-    next(
-        end,
+        Part::State.count_place(),
+    )?;
+    hold(get(file, SIXTH_PLACE) == 0, Rule::SixthCount, SIXTH_PLACE)?;
+    hold(file.len() == end, Rule::Length, file.len().min(end))?;
+    hold(
         (count == 0) | (get(file, depth_at) as usize == depth),
         Rule::Depth,
         depth_at,
@@ -171,10 +153,11 @@ fn test_state(first: Verdict, file: &[u8]) -> Verdict
 }
 
 // The first broken rule of a file, where there is this room for its words.
-pub(crate) fn verdict_of(file: &[u8], rooms: [usize; PARTS]) -> Verdict
-    ensures { result ≡ verdict_of file.now rooms }
+#[tactic(auto, using(crate::proofs::Tested::rooms_stay, crate::proofs::Tested::state_stays, crate::proofs::Parts::ordered), unfolding(crate::specs::Read::verdict_of))]
+pub(crate) fn verdict_of(file: &[u8], rooms: Parts<usize>) -> Result<(), Unreadable>
+    ensures { result ≡ verdict_of file.now (in_order rooms) }
 {
-    let head = test_head(file);
-    let counts = test_rooms(head, counts_of(file), rooms);
-    test_state(counts, file)
+    test_head(file)?;
+    test_rooms(counts_of(file), rooms)?;
+    test_state(file)
 }

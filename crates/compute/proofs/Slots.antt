@@ -8,7 +8,7 @@ use lib.Pow.{pow-add}
 use lib.ListN.{length}
 use mathlib.Core.List.{List}
 use Rattle.compute.specs.declared.Shape.{Shape}
-use Rattle.compute.specs.Registers.{slot, slot_in, Stands}
+use Rattle.compute.specs.Registers.{slot, slot_in, Roomy, Stands}
 
 -- of W rows of R
 rows_lt : (W R i r : ℕ) → i < W → r < R → i * R + r < W * R
@@ -33,6 +33,10 @@ slot_inj W R i r j s hi hr hj hs e =
 pub slot_fits : (k i R r : ℕ) → i < 2 ^ k → R < 2 ^ k → r < 2 ^ k → i * R + r < 2 ^ (k + k)
 slot_fits k i R r hi hR hr =
     rw (pow-add 2 k k) (omega (arith, rows_lt (2 ^ k) (2 ^ k) i r hi hr, mul-le-mul_left i (le_of_lt hR)))
+
+-- a register below R stands in a buffer with room
+pub standing : {shape : Shape} {regs : List ℕ} {r : ℕ} → Roomy shape regs → r < shape.registers → Stands shape regs r
+standing h b = record { narrow = h.narrow; low = b; room = h.room }
 
 -- a register that stands in the buffer
 pub slot_in_lem : {shape : Shape} {regs : List ℕ} {r : ℕ} → Stands shape regs r → (i k : ℕ) → k ≡ slot_in shape i r → i < shape.width → k < length regs

@@ -1,6 +1,6 @@
 -- A step of the proofs: nothing that is said to the reader rests on this file.
 -- What the loops over the lanes give, of registers of the buffer: the results of one class of operations each.
-use Rattle.std.specs.Prelude.{ℕ, cond, List, get_or}
+use Rattle.std.specs.Prelude.{◌≡◌, ℕ, ◌^◌, ◌<◌, cond, List, get_or}
 use Rattle.instructions.specs.declared.instr.TwoOp.{TwoOp}
 use Rattle.instructions.specs.declared.instr.OneOp.{OneOp}
 use Rattle.instructions.specs.declared.instr.CompareOp.{CompareOp}
@@ -13,19 +13,31 @@ use Rattle.lanes.specs.EachLane.{by_lane}
 use Rattle.compute.specs.Registers.{gather_of}
 use Rattle.compute.specs.Memory.{word_at}
 
+-- every answer that a rule may give of a number, or of two, is f's
+abbrev pub OfOne : (ℕ → ℕ → Type 0) → (ℕ → ℕ) → Type 0
+OfOne answers f = (a r : ℕ) → a < 2 ^ 32 → answers a r → r ≡ f a
+
+abbrev pub OfTwo : (ℕ → ℕ → ℕ → Type 0) → (ℕ → ℕ → ℕ) → Type 0
+OfTwo answers f = (a b r : ℕ) → a < 2 ^ 32 → b < 2 ^ 32 → answers a b r → r ≡ f a b
+
+-- f of the register a of every lane, and of the registers a and b
+abbrev pub by_one : (ℕ → ℕ) → Shape → List ℕ → ℕ → List ℕ
+by_one f shape regs a = by_lane shape.width (λ i. f (get_or (gather_of shape regs a) i 0))
+
+abbrev pub by_two : (ℕ → ℕ → ℕ) → Shape → List ℕ → ℕ → ℕ → List ℕ
+by_two f shape regs a b = by_lane shape.width (λ i. f (get_or (gather_of shape regs a) i 0) (get_or (gather_of shape regs b) i 0))
+
 -- an operation on the registers a and b
 unfoldable pub two_lanes : TwoOp → Shape → List ℕ → ℕ → ℕ → List ℕ
-two_lanes o shape regs a b =
-    by_lane shape.width (λ i. two_of o (get_or (gather_of shape regs a) i 0) (get_or (gather_of shape regs b) i 0))
+two_lanes o = by_two (two_of o)
 
 -- a comparison of them, 1 where it holds
 unfoldable pub compare_lanes : CompareOp → Shape → List ℕ → ℕ → ℕ → List ℕ
-compare_lanes o shape regs a b =
-    by_lane shape.width (λ i. cond (compare_of o (get_or (gather_of shape regs a) i 0) (get_or (gather_of shape regs b) i 0)) 1 0)
+compare_lanes o = by_two (λ a b. cond (compare_of o a b) 1 0)
 
 -- an operation on the register a
 unfoldable pub one_lanes : OneOp → Shape → List ℕ → ℕ → List ℕ
-one_lanes o shape regs a = by_lane shape.width (λ i. one_of o (get_or (gather_of shape regs a) i 0))
+one_lanes o = by_one (one_of o)
 
 -- the words that the addresses name
 unfoldable pub load_lanes : ℕ → List ℕ → List ℕ → List ℕ

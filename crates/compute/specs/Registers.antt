@@ -29,6 +29,11 @@ write_turn shape d t results i regs = cond (has t i) (set regs (slot_in shape i 
 unfoldable pub write_lanes : Shape → List ℕ → ℕ → ℕ → List ℕ → List ℕ
 write_lanes shape regs d t results = in_order shape.width (write_turn shape d t results) regs
 
+-- a wave no wider than the widest, and room in the buffer for the registers of every lane
+pub record Roomy (shape : Shape) (regs : List ℕ) : Type 0 where
+  pub narrow : shape.width ≤ widest
+  pub room : shape.width * shape.registers ≤ length regs
+
 -- register r of every lane stands within the buffer: what reading and writing ask for
 pub record Stands (shape : Shape) (regs : List ℕ) (r : ℕ) : Type 0 where
   pub narrow : shape.width ≤ widest

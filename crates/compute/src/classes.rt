@@ -1,22 +1,23 @@
 // One class of instructions each, whole: the results of every lane, then the writing, unless a lane faults.
-ghost use Rattle.std.specs.Prelude.{◌≡◌, List, ℕ};
+ghost use Rattle.std.specs.Prelude.{◌≡◌, ◌<◌, List, ℕ};
 ghost use Rattle.instructions.specs.declared.instr.Op.{Op};
 ghost use Rattle.compute.specs.Registers.{Stands, lanes_in, write_lanes};
 ghost use Rattle.compute.specs.Lanewise.{op_by, desired_by};
 ghost use Rattle.compute.specs.Classes.{Ready, Carries, Settled, dividing_faults, Loads, Stores};
 
 use crate::Shape;
+use crate::bank::Bank;
 use crate::constants::special_results;
 use crate::memory::{Change, addresses, change_lanes, load_lanes, store_lanes};
 use crate::one_operand::one_results;
-use crate::registers::{gather, write_lanes};
+use crate::registers::write_lanes;
 use crate::two_operands::two_results;
 use across::{shuffle_results, wave_results};
 use faulting::addresses::address_faults;
 use faulting::divisors::divisor_faults;
 use faulting::faults::{Faults, is_clear, no_faults};
 use instructions::instr::{Instr, OneOp, Space, TwoOp, WaveOp};
-use lanes::{ByLane, Lanes};
+use lanes::{ByLane, Lanes, Width};
 
 // Every lane's result, with the fault lanes beside it.
 #[derive(Clone, Copy)]
@@ -39,12 +40,12 @@ fn write_results(results: Results, t: Lanes, rd: u8, shape: Shape, regs: &mut [u
 }
 
 // The faults of the lanes `t` that divide by their registers `rs2`, if `op` divides.
-fn dividing_faults(op: TwoOp, t: Lanes, shape: Shape, regs: &[u32], rs2: u8) -> Faults
-    requires { Stands shape (lanes_in shape regs.now) rs2 }
-    ensures { result ≡ dividing_faults op shape (lanes_in shape regs.now) rs2 t }
+fn dividing_faults(op: TwoOp, t: Lanes, bank: &Bank, rs2: u8) -> Faults
+    requires { rs2 < bank.now.shape.registers }
+    ensures { result ≡ dividing_faults op bank.now.shape (lanes_in bank.now.shape bank.now.regs.now) rs2 t }
 {
     if operations::divides(op) {
-        return divisor_faults(gather(shape, regs, rs2), t, shape.width);
+        return divisor_faults(bank.gather(rs2), t, bank.shape.width);
     }
     no_faults()
 }
@@ -54,8 +55,9 @@ pub(crate) fn carry_two(op: TwoOp, x: Instr, t: Lanes, shape: Shape, regs: &mut 
     requires { Ready (Op.Two op) shape x (lanes_in shape regs.old) }
     ensures { (device local : List ℕ) → Carries shape x t (lanes_in shape regs.old) device local result (lanes_in shape regs.new) device local }
 {
-    let faults = dividing_faults(op, t, shape, regs, x.rs2);
-    let value = two_results(op, shape, regs, x.rs1, x.rs2);
+    let bank = Bank { shape, regs };
+    let faults = dividing_faults(op, t, &bank, x.rs2);
+    let value = two_results(op, &bank, x.rs1, x.rs2);
     write_results(Results { value, faults }, t, x.rd, shape, regs)
 }
 
@@ -65,7 +67,8 @@ pub(crate) fn carry_one(op: OneOp, x: Instr, t: Lanes, shape: Shape, regs: &mut 
     ensures { (device local : List ℕ) → Carries shape x t (lanes_in shape regs.old) device local result (lanes_in shape regs.new) device local }
 {
     let faults = no_faults();
-    let value = one_results(op, shape, regs, x.rs1);
+    let bank = Bank { shape, regs };
+    let value = one_results(op, &bank, x.rs1);
     write_results(Results { value, faults }, t, x.rd, shape, regs)
 }
 
@@ -75,7 +78,7 @@ pub(crate) fn carry_special(x: Instr, t: Lanes, shape: Shape, regs: &mut [u32]) 
     ensures { (device local : List ℕ) → Carries shape x t (lanes_in shape regs.old) device local result (lanes_in shape regs.new) device local }
 {
     let faults = no_faults();
-    let value = special_results(x.rs1, shape.width);
+    let value = special_results(x.rs1, Width { lanes: shape.width });
     write_results(Results { value, faults }, t, x.rd, shape, regs)
 }
 
@@ -95,7 +98,8 @@ pub(crate) fn carry_wave(op: WaveOp, x: Instr, t: Lanes, shape: Shape, regs: &mu
     ensures { (device local : List ℕ) → Carries shape x t (lanes_in shape regs.old) device local result (lanes_in shape regs.new) device local }
 {
     let faults = no_faults();
-    let numbers = gather(shape, regs, x.rs1);
+    let bank = Bank { shape, regs };
+    let numbers = bank.gather(x.rs1);
     let value = wave_results(op, &numbers, t, shape.width);
     write_results(Results { value, faults }, t, x.rd, shape, regs)
 }
@@ -106,8 +110,9 @@ pub(crate) fn carry_shuffle(x: Instr, t: Lanes, shape: Shape, regs: &mut [u32]) 
     ensures { (device local : List ℕ) → Carries shape x t (lanes_in shape regs.old) device local result (lanes_in shape regs.new) device local }
 {
     let faults = no_faults();
-    let numbers = gather(shape, regs, x.rs1);
-    let named = gather(shape, regs, x.rs2);
+    let bank = Bank { shape, regs };
+    let numbers = bank.gather(x.rs1);
+    let named = bank.gather(x.rs2);
     let value = shuffle_results(&numbers, &named, t, shape.width);
     write_results(Results { value, faults }, t, x.rd, shape, regs)
 }
@@ -124,10 +129,10 @@ fn load_through(
     requires { Ready (Op.Load space) shape x (lanes_in shape regs.old) }
     ensures { Loads space shape x t memory.now result (lanes_in shape regs.old) (lanes_in shape regs.new) }
 {
-    let width = shape.width;
-    let at = addresses(shape, regs, x.rs1, x.number);
-    let faults = address_faults(space, at, x.number, memory.len(), t, width);
-    let value = load_lanes(&at, memory, width);
+    let bank = Bank { shape, regs };
+    let at = addresses(&bank, x.rs1, x.number);
+    let faults = address_faults(space, at, x.number, memory.len(), t, shape.width);
+    let value = load_lanes(&at, memory, Width { lanes: shape.width });
     write_results(Results { value, faults }, t, x.rd, shape, regs)
 }
 
@@ -143,10 +148,11 @@ fn store_through(
     requires { Ready (Op.Store space) shape x (lanes_in shape regs.now) }
     ensures { Stores space shape x t (lanes_in shape regs.now) result memory.old memory.new }
 {
-    let at = addresses(shape, regs, x.rs1, x.number);
+    let bank = Bank { shape, regs };
+    let at = addresses(&bank, x.rs1, x.number);
     let faults = address_faults(space, at, x.number, memory.len(), t, shape.width);
     if is_clear(faults) {
-        store_lanes(&at, t, x.rd, shape, regs, memory);
+        store_lanes(&at, t, x.rd, &bank, memory);
     }
     faults
 }
@@ -215,10 +221,11 @@ pub(crate) fn carry_change(
     ensures { (local : List ℕ) → Carries shape x t (lanes_in shape regs.old) device.old local result (lanes_in shape regs.new) device.new local }
 {
     let rs3 = desired(change, x);
-    let at = gather(shape, regs, x.rs1);
+    let bank = Bank { shape, regs };
+    let at = bank.gather(x.rs1);
     let faults = address_faults(Space::Device, at, NO_OFFSET, device.len(), t, shape.width);
     if is_clear(faults) {
-        let value = change_lanes(change, &at, t, x.rs2, rs3, shape, regs, device);
+        let value = change_lanes(change, &at, t, x.rs2, rs3, &bank, device);
         return write_results(Results { value, faults }, t, x.rd, shape, regs);
     }
     faults

@@ -20,7 +20,7 @@ pub(crate) fn marked(set: Lanes, lane: u32, test: bool) -> Lanes
     if test { set & (1u32 << lane) } else { 0 }
 }
 
-// `new` where `picked`, and else `old`.
+// `new` where `picked`, and else `old`: a value for the writer's loop, which so has no branch.
 pub(crate) fn chosen(picked: bool, new: u32, old: u32) -> u32
     ensures { result ≡ cond picked new old }
 {

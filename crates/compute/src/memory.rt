@@ -1,18 +1,17 @@
 // Loads, stores and atomics of the executing lanes, over a memory of 32-bit words. Each has an answer for all addresses: a word past
 // the end reads as 0 and is not written.
-ghost use Rattle.std.specs.Prelude.{◌≡◌, cond, ◌≤◌, get_or, set};
-ghost use Rattle.lanes.specs.Sets.{widest};
+ghost use Rattle.std.specs.Prelude.{◌≡◌, cond, ◌<◌, get_or, set};
 ghost use Rattle.arith.specs.Arith.{word_of};
 ghost use Rattle.lanes.specs.EachLane.{by_lane};
-ghost use Rattle.compute.specs.Registers.{Stands, lanes_in, gather_of};
+ghost use Rattle.compute.specs.Registers.{lanes_in, gather_of};
 ghost use Rattle.compute.specs.Memory.{addresses_of, changes_of, old_of};
 ghost use Rattle.compute.specs.Lanewise.{load_lanes, change_of, change_to};
 
-use crate::Shape;
+use crate::bank::Bank;
 use crate::masks::{marked, picks};
-use crate::registers::slot;
+use crate::per_lane::each_lane;
 use instructions::instr::AtomicOp;
-use lanes::{ByLane, EACH_LANE, Lanes};
+use lanes::{ByLane, EACH_LANE, Lanes, Width};
 
 // What an atomic does to the word that it finds: an operation with its operand, or compare-and-swap.
 #[derive(Clone, Copy)]
@@ -22,20 +21,11 @@ pub enum Change {
 }
 
 // The addresses of a load or a store: RS1 plus the offset.
-pub(crate) fn addresses(shape: Shape, regs: &[u32], rs1: u8, offset: u32) -> ByLane
-    requires { Stands shape (lanes_in shape regs.now) rs1 }
-    ensures { result ≡ addresses_of shape.width (gather_of shape (lanes_in shape regs.now) rs1) offset }
+pub(crate) fn addresses(bank: &Bank, rs1: u8, offset: u32) -> ByLane
+    requires { rs1 < bank.now.shape.registers }
+    ensures { result ≡ addresses_of bank.now.shape.width (gather_of bank.now.shape (lanes_in bank.now.shape bank.now.regs.now) rs1) offset }
 {
-    let mut out = [0u32; EACH_LANE];
-    let width = shape.width;
-    let mut i: u32 = 0;
-    while i < width {
-        let p = slot(shape, i, rs1);
-        let k = i as usize;
-        out[k] = arith::sums::address(regs[p], offset);
-        i += 1;
-    }
-    out
+    bank.one_lanes(|base| arith::sums::address(base, offset), rs1)
 }
 
 // The word that an address names.
@@ -66,39 +56,19 @@ fn put_picked(memory: &mut [u32], address: u32, value: u32, picked: bool)
 }
 
 // The words that the lanes' addresses name.
-pub(crate) fn load_lanes(at: &ByLane, memory: &[u32], width: u32) -> ByLane
-    requires { width ≤ widest }
-    ensures { result ≡ load_lanes width at.now memory.now }
+pub(crate) fn load_lanes(at: &ByLane, memory: &[u32], width: Width) -> ByLane
+    ensures { result ≡ load_lanes width.lanes at.now memory.now }
 {
-    let mut out = [0u32; EACH_LANE];
-    let mut i: u32 = 0;
-    while i < width {
-        let k = i as usize;
-        out[k] = word(memory, at[k]);
-        i += 1;
-    }
-    out
+    each_lane(width, |i| word(memory, at[i as usize]))
 }
 
 // Stores register `rd` of the lanes `t` at their addresses, in rising lane order.
-pub(crate) fn store_lanes(
-    at: &ByLane,
-    t: Lanes,
-    rd: u8,
-    shape: Shape,
-    regs: &[u32],
-    memory: &mut [u32],
-)
-    requires { Stands shape (lanes_in shape regs.now) rd }
-    ensures { memory.new ≡ changes_of shape.width at.now (λ i old. get_or (gather_of shape (lanes_in shape regs.now) rd) i 0) t memory.old }
+pub(crate) fn store_lanes(at: &ByLane, t: Lanes, rd: u8, bank: &Bank, memory: &mut [u32])
+    requires { rd < bank.now.shape.registers }
+    ensures { memory.new ≡ changes_of bank.now.shape.width at.now (λ i old. get_or (gather_of bank.now.shape (lanes_in bank.now.shape bank.now.regs.now) rd) i 0) t memory.old }
 {
-    let width = shape.width;
-    let mut i: u32 = 0;
-    while i < width {
-        let p = slot(shape, i, rd);
-        let k = i as usize;
-        put_picked(memory, at[k], regs[p], picks(t, i));
-        i += 1;
+    for i in 0..bank.shape.width {
+        put_picked(memory, at[i as usize], bank.at(i, rd), picks(t, i));
     }
 }
 
@@ -131,22 +101,21 @@ pub(crate) fn change_lanes(
     t: Lanes,
     rs2: u8,
     rs3: u8,
-    shape: Shape,
-    regs: &[u32],
+    bank: &Bank,
     memory: &mut [u32],
 ) -> ByLane
-    requires { Stands shape (lanes_in shape regs.now) rs2 × Stands shape (lanes_in shape regs.now) rs3 }
-    ensures found { result ≡ by_lane shape.width (old_of at.now (change_to change shape (lanes_in shape regs.now) rs2 rs3) t memory.old) }
-    ensures left { memory.new ≡ changes_of shape.width at.now (change_to change shape (lanes_in shape regs.now) rs2 rs3) t memory.old }
+    requires { (rs2 < bank.now.shape.registers) × (rs3 < bank.now.shape.registers) }
+    ensures found { result ≡ by_lane bank.now.shape.width (old_of at.now (change_to change bank.now.shape (lanes_in bank.now.shape bank.now.regs.now) rs2 rs3) t memory.old) }
+    ensures left { memory.new ≡ changes_of bank.now.shape.width at.now (change_to change bank.now.shape (lanes_in bank.now.shape bank.now.regs.now) rs2 rs3) t memory.old }
 {
     let mut out = [0u32; EACH_LANE];
-    let mut rest = lanes::meet(t, lanes::first(shape.width));
+    let mut rest = lanes::meet(t, lanes::first(bank.shape.width));
     while rest != 0 {
         let i = lanes::lowest(rest);
-        let p = slot(shape, i, rs2);
-        let q = slot(shape, i, rs3);
         let k = i as usize;
-        out[k] = change_word(change, at[k], regs[p], regs[q], memory);
+        let operand = bank.at(i, rs2);
+        let desired = bank.at(i, rs3);
+        out[k] = change_word(change, at[k], operand, desired, memory);
         rest = lanes::without(rest, marked(rest, i, true));
     }
     out

@@ -1,11 +1,12 @@
-// Where the registers stand: reading a register of every lane, and the writer.
+// Where the registers stand, and the writer. The writer takes the buffer beside its shape, and no bank: a struct that holds a `&mut` owes in
+// each contract that it holds the same one still, which is as many clauses as it saves.
 ghost use Rattle.std.specs.Prelude.{◌≡◌};
 ghost use Rattle.lanes.specs.Sets.{first};
-ghost use Rattle.compute.specs.Registers.{Stands, lanes_in, slot_in, gather_of, write_lanes};
+ghost use Rattle.compute.specs.Registers.{Stands, lanes_in, slot_in, write_lanes};
 
 use crate::Shape;
 use crate::masks::{chosen, picks};
-use lanes::{ByLane, EACH_LANE, Lanes};
+use lanes::{ByLane, Lanes};
 
 // Where register `register` of `lane` stands.
 pub(crate) fn slot(shape: Shape, lane: u32, register: u8) -> usize
@@ -14,35 +15,13 @@ pub(crate) fn slot(shape: Shape, lane: u32, register: u8) -> usize
     (lane as usize) * (shape.registers as usize) + (register as usize)
 }
 
-// Register `register` of every lane.
-pub(crate) fn gather(shape: Shape, regs: &[u32], register: u8) -> ByLane
-    requires { Stands shape (lanes_in shape regs.now) register }
-    ensures { result ≡ gather_of shape (lanes_in shape regs.now) register }
-{
-    let mut out = [0u32; EACH_LANE];
-    let width = shape.width;
-    let mut i: u32 = 0;
-    while i < width {
-        let at = slot(shape, i, register);
-        let k = i as usize;
-        out[k] = regs[at];
-        i += 1;
-    }
-    out
-}
-
 // Writes the results of every lane to its register `rd`.
 fn write_all_lanes(results: &ByLane, rd: u8, shape: Shape, regs: &mut [u32])
     requires { Stands shape (lanes_in shape regs.old) rd }
     ensures { lanes_in shape regs.new ≡ write_lanes shape (lanes_in shape regs.old) rd (first shape.width) results.now }
 {
-    let width = shape.width;
-    let mut i: u32 = 0;
-    while i < width {
-        let at = slot(shape, i, rd);
-        let k = i as usize;
-        regs[at] = results[k];
-        i += 1;
+    for i in 0..shape.width {
+        regs[slot(shape, i, rd)] = results[i as usize];
     }
 }
 
@@ -51,14 +30,10 @@ fn write_some_lanes(results: &ByLane, t: Lanes, rd: u8, shape: Shape, regs: &mut
     requires { Stands shape (lanes_in shape regs.old) rd }
     ensures { lanes_in shape regs.new ≡ write_lanes shape (lanes_in shape regs.old) rd t results.now }
 {
-    let width = shape.width;
-    let mut i: u32 = 0;
-    while i < width {
+    for i in 0..shape.width {
         let at = slot(shape, i, rd);
-        let k = i as usize;
         let old = regs[at];
-        regs[at] = chosen(picks(t, i), results[k], old);
-        i += 1;
+        regs[at] = chosen(picks(t, i), results[i as usize], old);
     }
 }
 

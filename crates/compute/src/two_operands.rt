@@ -1,164 +1,35 @@
-// Results of the operations on RS1 and RS2. `two_lanes` is the loop; each operation calls it through a function of its own, so that
-// the compiler makes a loop for each operation, with no choice of operation within.
-ghost use Rattle.std.specs.Prelude.{◌≡◌};
-ghost use Rattle.compute.specs.Registers.{Stands, lanes_in};
+// Results of the operations on RS1 and RS2. An arm for each operation, so that each has a loop with no choice of operation within: with one
+// loop for all, that chooses at each lane, an arithmetic step takes 1.15 to 1.55 of its time.
+ghost use Rattle.std.specs.Prelude.{◌≡◌, ◌<◌};
+ghost use Rattle.compute.specs.Registers.{lanes_in};
 ghost use Rattle.compute.specs.Lanewise.{two_lanes};
 
-use crate::Shape;
-use crate::registers::slot;
+use crate::bank::Bank;
 use instructions::instr::TwoOp;
-use lanes::{ByLane, EACH_LANE};
-
-fn two_lanes(op: TwoOp, shape: Shape, regs: &[u32], rs1: u8, rs2: u8) -> ByLane
-    requires { Stands shape (lanes_in shape regs.now) rs1 × Stands shape (lanes_in shape regs.now) rs2 }
-    ensures { result ≡ two_lanes op shape (lanes_in shape regs.now) rs1 rs2 }
-{
-    let mut out = [0u32; EACH_LANE];
-    let width = shape.width;
-    let mut i: u32 = 0;
-    while i < width {
-        let p = slot(shape, i, rs1);
-        let q = slot(shape, i, rs2);
-        let k = i as usize;
-        out[k] = operations::two(op, regs[p], regs[q]);
-        i += 1;
-    }
-    out
-}
-
-fn add_lanes(shape: Shape, regs: &[u32], rs1: u8, rs2: u8) -> ByLane
-    requires { Stands shape (lanes_in shape regs.now) rs1 × Stands shape (lanes_in shape regs.now) rs2 }
-    ensures { result ≡ two_lanes TwoOp.Add shape (lanes_in shape regs.now) rs1 rs2 }
-{
-    two_lanes(TwoOp::Add, shape, regs, rs1, rs2)
-}
-
-fn sub_lanes(shape: Shape, regs: &[u32], rs1: u8, rs2: u8) -> ByLane
-    requires { Stands shape (lanes_in shape regs.now) rs1 × Stands shape (lanes_in shape regs.now) rs2 }
-    ensures { result ≡ two_lanes TwoOp.Sub shape (lanes_in shape regs.now) rs1 rs2 }
-{
-    two_lanes(TwoOp::Sub, shape, regs, rs1, rs2)
-}
-
-fn mul_lanes(shape: Shape, regs: &[u32], rs1: u8, rs2: u8) -> ByLane
-    requires { Stands shape (lanes_in shape regs.now) rs1 × Stands shape (lanes_in shape regs.now) rs2 }
-    ensures { result ≡ two_lanes TwoOp.Mul shape (lanes_in shape regs.now) rs1 rs2 }
-{
-    two_lanes(TwoOp::Mul, shape, regs, rs1, rs2)
-}
-
-fn div_lanes(shape: Shape, regs: &[u32], rs1: u8, rs2: u8) -> ByLane
-    requires { Stands shape (lanes_in shape regs.now) rs1 × Stands shape (lanes_in shape regs.now) rs2 }
-    ensures { result ≡ two_lanes TwoOp.Div shape (lanes_in shape regs.now) rs1 rs2 }
-{
-    two_lanes(TwoOp::Div, shape, regs, rs1, rs2)
-}
-
-fn udiv_lanes(shape: Shape, regs: &[u32], rs1: u8, rs2: u8) -> ByLane
-    requires { Stands shape (lanes_in shape regs.now) rs1 × Stands shape (lanes_in shape regs.now) rs2 }
-    ensures { result ≡ two_lanes TwoOp.Udiv shape (lanes_in shape regs.now) rs1 rs2 }
-{
-    two_lanes(TwoOp::Udiv, shape, regs, rs1, rs2)
-}
-
-fn rem_lanes(shape: Shape, regs: &[u32], rs1: u8, rs2: u8) -> ByLane
-    requires { Stands shape (lanes_in shape regs.now) rs1 × Stands shape (lanes_in shape regs.now) rs2 }
-    ensures { result ≡ two_lanes TwoOp.Rem shape (lanes_in shape regs.now) rs1 rs2 }
-{
-    two_lanes(TwoOp::Rem, shape, regs, rs1, rs2)
-}
-
-fn urem_lanes(shape: Shape, regs: &[u32], rs1: u8, rs2: u8) -> ByLane
-    requires { Stands shape (lanes_in shape regs.now) rs1 × Stands shape (lanes_in shape regs.now) rs2 }
-    ensures { result ≡ two_lanes TwoOp.Urem shape (lanes_in shape regs.now) rs1 rs2 }
-{
-    two_lanes(TwoOp::Urem, shape, regs, rs1, rs2)
-}
-
-fn min_lanes(shape: Shape, regs: &[u32], rs1: u8, rs2: u8) -> ByLane
-    requires { Stands shape (lanes_in shape regs.now) rs1 × Stands shape (lanes_in shape regs.now) rs2 }
-    ensures { result ≡ two_lanes TwoOp.Min shape (lanes_in shape regs.now) rs1 rs2 }
-{
-    two_lanes(TwoOp::Min, shape, regs, rs1, rs2)
-}
-
-fn max_lanes(shape: Shape, regs: &[u32], rs1: u8, rs2: u8) -> ByLane
-    requires { Stands shape (lanes_in shape regs.now) rs1 × Stands shape (lanes_in shape regs.now) rs2 }
-    ensures { result ≡ two_lanes TwoOp.Max shape (lanes_in shape regs.now) rs1 rs2 }
-{
-    two_lanes(TwoOp::Max, shape, regs, rs1, rs2)
-}
-
-fn mulhi_lanes(shape: Shape, regs: &[u32], rs1: u8, rs2: u8) -> ByLane
-    requires { Stands shape (lanes_in shape regs.now) rs1 × Stands shape (lanes_in shape regs.now) rs2 }
-    ensures { result ≡ two_lanes TwoOp.Mulhi shape (lanes_in shape regs.now) rs1 rs2 }
-{
-    two_lanes(TwoOp::Mulhi, shape, regs, rs1, rs2)
-}
-
-fn and_lanes(shape: Shape, regs: &[u32], rs1: u8, rs2: u8) -> ByLane
-    requires { Stands shape (lanes_in shape regs.now) rs1 × Stands shape (lanes_in shape regs.now) rs2 }
-    ensures { result ≡ two_lanes TwoOp.And shape (lanes_in shape regs.now) rs1 rs2 }
-{
-    two_lanes(TwoOp::And, shape, regs, rs1, rs2)
-}
-
-fn or_lanes(shape: Shape, regs: &[u32], rs1: u8, rs2: u8) -> ByLane
-    requires { Stands shape (lanes_in shape regs.now) rs1 × Stands shape (lanes_in shape regs.now) rs2 }
-    ensures { result ≡ two_lanes TwoOp.Or shape (lanes_in shape regs.now) rs1 rs2 }
-{
-    two_lanes(TwoOp::Or, shape, regs, rs1, rs2)
-}
-
-fn xor_lanes(shape: Shape, regs: &[u32], rs1: u8, rs2: u8) -> ByLane
-    requires { Stands shape (lanes_in shape regs.now) rs1 × Stands shape (lanes_in shape regs.now) rs2 }
-    ensures { result ≡ two_lanes TwoOp.Xor shape (lanes_in shape regs.now) rs1 rs2 }
-{
-    two_lanes(TwoOp::Xor, shape, regs, rs1, rs2)
-}
-
-fn shl_lanes(shape: Shape, regs: &[u32], rs1: u8, rs2: u8) -> ByLane
-    requires { Stands shape (lanes_in shape regs.now) rs1 × Stands shape (lanes_in shape regs.now) rs2 }
-    ensures { result ≡ two_lanes TwoOp.Shl shape (lanes_in shape regs.now) rs1 rs2 }
-{
-    two_lanes(TwoOp::Shl, shape, regs, rs1, rs2)
-}
-
-fn shr_lanes(shape: Shape, regs: &[u32], rs1: u8, rs2: u8) -> ByLane
-    requires { Stands shape (lanes_in shape regs.now) rs1 × Stands shape (lanes_in shape regs.now) rs2 }
-    ensures { result ≡ two_lanes TwoOp.Shr shape (lanes_in shape regs.now) rs1 rs2 }
-{
-    two_lanes(TwoOp::Shr, shape, regs, rs1, rs2)
-}
-
-fn sar_lanes(shape: Shape, regs: &[u32], rs1: u8, rs2: u8) -> ByLane
-    requires { Stands shape (lanes_in shape regs.now) rs1 × Stands shape (lanes_in shape regs.now) rs2 }
-    ensures { result ≡ two_lanes TwoOp.Sar shape (lanes_in shape regs.now) rs1 rs2 }
-{
-    two_lanes(TwoOp::Sar, shape, regs, rs1, rs2)
-}
+use lanes::ByLane;
+use operations::two;
 
 // What `op` gives of every lane's RS1 and RS2.
-pub(crate) fn two_results(op: TwoOp, shape: Shape, regs: &[u32], rs1: u8, rs2: u8) -> ByLane
-    requires { Stands shape (lanes_in shape regs.now) rs1 × Stands shape (lanes_in shape regs.now) rs2 }
-    ensures { result ≡ two_lanes op shape (lanes_in shape regs.now) rs1 rs2 }
+pub(crate) fn two_results(op: TwoOp, bank: &Bank, rs1: u8, rs2: u8) -> ByLane
+    requires { (rs1 < bank.now.shape.registers) × (rs2 < bank.now.shape.registers) }
+    ensures { result ≡ two_lanes op bank.now.shape (lanes_in bank.now.shape bank.now.regs.now) rs1 rs2 }
 {
     match op {
-        TwoOp::Add => add_lanes(shape, regs, rs1, rs2),
-        TwoOp::Sub => sub_lanes(shape, regs, rs1, rs2),
-        TwoOp::Mul => mul_lanes(shape, regs, rs1, rs2),
-        TwoOp::Div => div_lanes(shape, regs, rs1, rs2),
-        TwoOp::Udiv => udiv_lanes(shape, regs, rs1, rs2),
-        TwoOp::Rem => rem_lanes(shape, regs, rs1, rs2),
-        TwoOp::Urem => urem_lanes(shape, regs, rs1, rs2),
-        TwoOp::Min => min_lanes(shape, regs, rs1, rs2),
-        TwoOp::Max => max_lanes(shape, regs, rs1, rs2),
-        TwoOp::Mulhi => mulhi_lanes(shape, regs, rs1, rs2),
-        TwoOp::And => and_lanes(shape, regs, rs1, rs2),
-        TwoOp::Or => or_lanes(shape, regs, rs1, rs2),
-        TwoOp::Xor => xor_lanes(shape, regs, rs1, rs2),
-        TwoOp::Shl => shl_lanes(shape, regs, rs1, rs2),
-        TwoOp::Shr => shr_lanes(shape, regs, rs1, rs2),
-        TwoOp::Sar => sar_lanes(shape, regs, rs1, rs2),
+        TwoOp::Add => bank.two_lanes(|a, b| two(TwoOp::Add, a, b), rs1, rs2),
+        TwoOp::Sub => bank.two_lanes(|a, b| two(TwoOp::Sub, a, b), rs1, rs2),
+        TwoOp::Mul => bank.two_lanes(|a, b| two(TwoOp::Mul, a, b), rs1, rs2),
+        TwoOp::Div => bank.two_lanes(|a, b| two(TwoOp::Div, a, b), rs1, rs2),
+        TwoOp::Udiv => bank.two_lanes(|a, b| two(TwoOp::Udiv, a, b), rs1, rs2),
+        TwoOp::Rem => bank.two_lanes(|a, b| two(TwoOp::Rem, a, b), rs1, rs2),
+        TwoOp::Urem => bank.two_lanes(|a, b| two(TwoOp::Urem, a, b), rs1, rs2),
+        TwoOp::Min => bank.two_lanes(|a, b| two(TwoOp::Min, a, b), rs1, rs2),
+        TwoOp::Max => bank.two_lanes(|a, b| two(TwoOp::Max, a, b), rs1, rs2),
+        TwoOp::Mulhi => bank.two_lanes(|a, b| two(TwoOp::Mulhi, a, b), rs1, rs2),
+        TwoOp::And => bank.two_lanes(|a, b| two(TwoOp::And, a, b), rs1, rs2),
+        TwoOp::Or => bank.two_lanes(|a, b| two(TwoOp::Or, a, b), rs1, rs2),
+        TwoOp::Xor => bank.two_lanes(|a, b| two(TwoOp::Xor, a, b), rs1, rs2),
+        TwoOp::Shl => bank.two_lanes(|a, b| two(TwoOp::Shl, a, b), rs1, rs2),
+        TwoOp::Shr => bank.two_lanes(|a, b| two(TwoOp::Shr, a, b), rs1, rs2),
+        TwoOp::Sar => bank.two_lanes(|a, b| two(TwoOp::Sar, a, b), rs1, rs2),
     }
 }

@@ -10,7 +10,6 @@ use Rattle.instructions.specs.declared.instr.ControlOp.TheVariants.{If, Else, En
 use Rattle.lanes.specs.declared.said.Block.{Block}
 use Rattle.wave.specs.declared.state.Hot.{Hot}
 use Rattle.control.specs.declared.rules.Stepped.{Stepped}
-use Rattle.wave.specs.Layout.{path_numbers}
 use Rattle.wave.specs.Wave.{Wave, wave_of, preds_of}
 use Rattle.control.specs.Rules.{onward, opens, else_on, endif_on, endloop_on, barred, broken, continued}
 use Rattle.control.specs.Control.{control_rule, fault_lanes, control_of, Given, given}
@@ -56,13 +55,13 @@ control_room Barrier all t w h = either_room (barred all w) w (onward w) h h
 control_room Nop all t w h = h
 
 -- ---- what a caller of `control` learns, who was lent xs and left ys
-pub record Seen (op : ControlOp) (all t : ℕ) (h : Hot) (xs : List ℕ) (r : Stepped) (ys : List ℕ) : Type 0 where
-  pub long : length ys ≡ path_numbers
+pub record Seen (op : ControlOp) (all t : ℕ) (h : Hot) (xs : List Block) (r : Stepped) (ys : List Block) : Type 0 where
+  pub long : length ys ≡ nesting
   pub wave : wave_of r.hot ys ≡ control_rule op all t (wave_of h xs)
   pub preds : preds_of r.hot ≡ preds_of h
   pub lanes : r.barrier ≡ fault_lanes op all (wave_of h xs)
 
-pub seen : (op : ControlOp) (all t : ℕ) (h : Hot) (xs : List ℕ) (r : Stepped) (ys : List ℕ) → length xs ≡ path_numbers
+pub seen : (op : ControlOp) (all t : ℕ) (h : Hot) (xs : List Block) (r : Stepped) (ys : List Block) → length xs ≡ nesting
     → given r ys ≡ control_of op all t h xs → Seen op all t h xs r ys
 seen op all t h xs r ys l e =
     let w : Wave = control_rule op all t (wave_of h xs) in

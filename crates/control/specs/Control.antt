@@ -1,5 +1,6 @@
 -- Any control instruction: what it makes of the wave, the lanes at which it faults, and what the code holds after it.
 use Rattle.std.specs.Prelude.{ℕ, List}
+use Rattle.lanes.specs.declared.said.Block.{Block}
 use Rattle.instructions.specs.declared.instr.ControlOp.{ControlOp}
 use Rattle.instructions.specs.declared.instr.ControlOp.TheVariants.{If, Else, Endif, Loop, Break, Continue, Endloop, Halt, Barrier, Nop}
 use Rattle.wave.specs.declared.state.Hot.{Hot}
@@ -38,11 +39,11 @@ pub record Given : Type 0 where
   pub barrier : ℕ
   pub end : Held
 
-abbrev pub given : Stepped → List ℕ → Given
+abbrev pub given : Stepped → List Block → Given
 given r ys = record { barrier = r.barrier; end = held r.hot ys }
 
-abbrev pub giving : ℕ → (Wave → Wave) → Hot → List ℕ → Given
+abbrev pub giving : ℕ → (Wave → Wave) → Hot → List Block → Given
 giving lanes f h xs = record { barrier = lanes; end = after f h xs }
 
-abbrev pub control_of : ControlOp → ℕ → ℕ → Hot → List ℕ → Given
+abbrev pub control_of : ControlOp → ℕ → ℕ → Hot → List Block → Given
 control_of op all t h xs = giving (fault_lanes op all (wave_of h xs)) (control_rule op all t) h xs

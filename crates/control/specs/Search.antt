@@ -1,21 +1,32 @@
 -- A step of the proofs: nothing that is said to the reader rests on this file.
--- The outward search: the innermost open loop by its number among the open blocks, counted from the outermost; and lanes that join one of
--- its six numbers.
-use Rattle.std.specs.Prelude.{◌≡◌, ℕ, cond, List, [], ◌∷◌, length, bit_or, slice_index, slice_set}
+-- The outward search: the innermost open loop by its number among the open blocks, counted from the outermost; and the hot numbers once
+-- lanes are set aside.
+use Rattle.std.specs.Prelude.{ℕ, min, cond, List, [], ◌∷◌, length, Option, Some, None}
 use Rattle.lanes.specs.Blocks.{nesting}
+use Rattle.lanes.specs.Sets.{without}
 use Rattle.lanes.specs.declared.said.Block.{Block}
-use Rattle.wave.specs.Layout.{six}
+use Rattle.wave.specs.declared.state.Hot.{Hot}
 use Rattle.wave.specs.Layout.{is_loop}
+use Rattle.wave.specs.Going.{next}
 
--- 32 where no loop is open: no block has that number
-abbrev pub loop_at : List Block → ℕ
-loop_at [] = nesting
-loop_at (b ∷ bs) = cond (is_loop b) (length bs) (loop_at bs)
+-- none where no loop is open
+abbrev pub loop_at : List Block → Option ℕ
+loop_at [] = None
+loop_at (b ∷ bs) = cond (is_loop b) (Some (length bs)) (loop_at bs)
 
 -- the search itself does not change the loop
 abbrev pub same : Block → Block
 same b = b
 
--- f is what the lanes t make of a block whose number j they join
-abbrev pub Joins : (Block → Block) → ℕ → ℕ → Type 0
-Joins f t j = (b : Block) (rest : List ℕ) → slice_set (six b rest) j (bit_or (slice_index (six b rest) j) t) ≡ six (f b) rest
+-- the hot numbers at the next place, where the lanes t are no longer active
+abbrev pub less : ℕ → Hot → Hot
+less t h =
+    record {
+      place = next h.place;
+      active = without h.active t;
+      halted = h.halted;
+      p1 = h.p1;
+      p2 = h.p2;
+      p3 = h.p3;
+      depth = min h.depth nesting;
+    }

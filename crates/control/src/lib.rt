@@ -15,7 +15,8 @@ use crate::rules::halting::halt_rule;
 use crate::rules::opening::{if_rule, loop_rule};
 use instructions::instr::ControlOp;
 use lanes::Lanes;
-use wave::state::{Hot, PATH_NUMBERS};
+use lanes::said::{Block, DEEPEST};
+use wave::state::Hot;
 
 // One control instruction, by the executing lanes t; `all` are the launched lanes. Where BARRIER faults, its lanes are answered and the
 // wave is as before. What stands past the open blocks stays as lent, and a depth over 32 comes back as 32.
@@ -24,7 +25,7 @@ pub fn control(
     t: Lanes,
     all: Lanes,
     h: Hot,
-    blocks: &mut [u32; PATH_NUMBERS],
+    blocks: &mut [Block; DEEPEST],
 ) -> Stepped
     ensures { given result blocks.new ≡ control_of op all t h blocks.old }
 {

@@ -10,7 +10,8 @@ pub mod going;
 pub mod halting;
 pub mod opening;
 
-// After a control instruction: the lanes of fault 5, and the hot numbers.
+// After a control instruction: the lanes of fault 5, 0 for none, and the hot numbers. No Result: where BARRIER faults the promise tells the
+// hot numbers too, with a depth over 32 as 32.
 #[derive(Clone, Copy)]
 pub struct Stepped {
     pub barrier: Lanes,

@@ -7,17 +7,21 @@
 // tests/day_files.py makes the cases, and answers them from the page.
 #![tactic(auto)]
 
-ghost use Rattle.std.specs.Prelude.{◌≡◌, ◌<◌, length};
+ghost use Rattle.std.specs.Prelude.{◌≡◌, length};
 
-use body::BodyAnswer;
-use dayfile::answer::MakeAnswer;
+use numbers::get;
+use records::Record;
+use refusals::Refusal;
 
+// Read and written by `io`, which stands on two calls of the system, where std's streams bring 37.
 const STDIN_FILENO: i32 = 0;
 
 const STDOUT_FILENO: i32 = 1;
 
-use numbers::get;
-use records::answer::ReadAnswer;
+// The bytes of a case's three numbers, and the count that stands for the bytes of the case before.
+const HEAD_BYTES: usize = 12;
+
+const SAME_BYTES: usize = 4294967295;
 
 fn put_word(word: &[u8]) {
     io::write_all(STDOUT_FILENO, word);
@@ -32,36 +36,38 @@ fn end_line() {
     io::write_all(STDOUT_FILENO, b"\n");
 }
 
-fn put_refusal(number: u32, place: usize) {
+fn put_refusal(refusal: Refusal) {
     put_word(b"refused");
-    put_number(number as usize);
-    put_number(place);
+    put_number(refusal.number as usize);
+    put_number(refusal.place);
 }
 
 fn answer_body(bytes: &[u8], at: usize) {
     match body::body_length(bytes, at) {
-        BodyAnswer::Length(n) => {
+        Ok(n) => {
             put_word(b"length");
             put_number(n);
         }
-        BodyAnswer::Refused(refusal) => put_refusal(refusal.number, refusal.place),
+        Err(refusal) => put_refusal(refusal),
     }
     end_line();
 }
 
 fn answer_read(bytes: &[u8], i: usize) {
     match records::read(bytes, i) {
-        ReadAnswer::Record {
-            place,
-            length,
-            first,
-        } => {
+        Ok(
+            Record {
+                place,
+                length,
+                first,
+            },
+        ) => {
             put_word(b"record");
             put_number(place);
             put_number(length);
             put_number(first);
         }
-        ReadAnswer::Refused(refusal) => put_refusal(refusal.number, refusal.place),
+        Err(refusal) => put_refusal(refusal),
     }
     end_line();
 }
@@ -69,27 +75,19 @@ fn answer_read(bytes: &[u8], i: usize) {
 // The sum of a buffer's bytes, each weighed by its place, modulo 2^32.
 fn sum_of(bytes: &[u8]) -> usize {
     let mut sum: usize = 0;
-    let mut i: usize = 0;
-    while i < bytes.len() {
-        sum = (31 * sum + wide(bytes[i])) % 4294967296;
-        i += 1;
+    for byte in bytes {
+        sum = (31 * sum + *byte as usize) % 4294967296;
     }
     sum
 }
 
-fn wide(x: u8) -> usize
-    ensures { result < 256 }
-{
-    x as usize
-}
-
 fn answer_make(bytes: &[u8], out: &mut [u8]) {
     match dayfile::make(bytes, out) {
-        MakeAnswer::Made(n) => {
+        Ok(n) => {
             put_word(b"made");
             put_number(n);
         }
-        MakeAnswer::Refused(refusal) => put_refusal(refusal.number, refusal.place),
+        Err(refusal) => put_refusal(refusal),
     }
     put_number(sum_of(out));
     end_line();
@@ -127,28 +125,23 @@ fn answer(operation: u32, argument: usize, bytes: &[u8]) {
     }
 }
 
+// Answers each case in turn. A case says how long it is, so no iterator goes from one to the next.
 fn answer_all(cases: &[u8]) {
-    let mut at: usize = 0;
-    let mut from: usize = 0;
-    let mut to: usize = 0;
-    while at < cases.len() {
-        let rest = cases.len() - at;
-        if rest < 12 {
-            return;
-        }
-        let operation = get(cases, at);
-        let argument = get(cases, at + 4) as usize;
-        let count = get(cases, at + 8) as usize;
-        at += 12;
-        if count != 4294967295 {
-            if rest - 12 < count {
+    let mut rest = cases;
+    let mut bytes = &cases[..0];
+    while HEAD_BYTES <= rest.len() {
+        let operation = get(rest, 0);
+        let argument = get(rest, 4) as usize;
+        let count = get(rest, 8) as usize;
+        rest = &rest[HEAD_BYTES..];
+        if count != SAME_BYTES {
+            if rest.len() < count {
                 return;
             }
-            from = at;
-            to = at + count;
-            at = to;
+            bytes = &rest[..count];
+            rest = &rest[count..];
         }
-        answer(operation, argument, &cases[from..to]);
+        answer(operation, argument, bytes);
     }
 }
 

@@ -10,14 +10,14 @@ use borrow.Author.Tests.{leb-true, leb-false}
 use lib.Dec.{leb}
 use lib.ListN.{length, take, drop}
 use lib.Seq.{take-append_seam}
+use Rattle.std.specs.Prelude.{Result, Ok, Err}
 use Rattle.refusals.specs.declared.Refusal.{Refusal}
-use Rattle.refusals.specs.Table.{Rule, broken}
+use Rattle.refusals.specs.declared.Rule.{Rule}
+use Rattle.refusals.specs.Table.{broken}
 use Rattle.ground.specs.Tests.{all_of}
 use Rattle.ground.proofs.Tests.{true_or_false}
 use Rattle.numbers.specs.Placed.{placed}
 use Rattle.numbers.proofs.Placing.{placed_front}
-use Rattle.dayfile.specs.declared.making.Survey.{Survey}
-use Rattle.dayfile.specs.declared.answer.MakeAnswer.TheVariants.{Made, Refused}
 use Rattle.dayfile.specs.Day.{most_records, Layout, file_of, Listed}
 use Rattle.dayfile.specs.Make.{Making, made, filed, surveyed, make_of, Makes, file_in}
 use Rattle.dayfile.proofs.Layouts.{Lawful}
@@ -27,14 +27,14 @@ use Rattle.dayfile.proofs.Theorems.{list_made}
 
 -- ---- an answer is one answer
 
-one_making : (m n : ℕ) (x y : List ℕ) → made (Made m) x ≡ made (Made n) y → (m ≡ n) × (x ≡ y)
-one_making m n x y e = let a : Made m ≡ Made n = ap (λ (k : Making). k.answer) e in (cc, ap (λ (k : Making). k.out) e)
+one_making : (m n : ℕ) (x y : List ℕ) → made (Ok m) x ≡ made (Ok n) y → (m ≡ n) × (x ≡ y)
+one_making m n x y e = let a : Ok m ≡ Ok n = ap (λ (k : Making). k.answer) e in (cc, ap (λ (k : Making). k.out) e)
 
-made_refused : (n : ℕ) (z : Refusal) (x y : List ℕ) → made (Made n) x ≡ made (Refused z) y → ⊥
+made_refused : (n : ℕ) (z : Refusal) (x y : List ℕ) → made (Ok n) x ≡ made (Err z) y → ⊥
 made_refused n z x y e =
-    let a : Made n ≡ Refused z = ap (λ (m : Making). m.answer) e in let o : ◌≡◌ {A = ℕ} 0 1 = cc in omega arith
+    let a : Ok n ≡ Err z = ap (λ (m : Making). m.answer) e in let o : ◌≡◌ {A = ℕ} 0 1 = cc in omega arith
 
-filed_is : (f out now : List ℕ) (n : ℕ) → made (Made n) now ≡ filed f out → take n now ≡ f
+filed_is : (f out now : List ℕ) (n : ℕ) → made (Ok n) now ≡ filed f out → take n now ≡ f
 unfolding filed
 filed_is f out now n e =
     elim (true_or_false (leb (length f) (length out))) [
@@ -42,7 +42,7 @@ filed_is f out now n e =
           let w = one_making n (length f) now (placed out 0 f) (e ∙ simp l) in
           let s : now ≡ f ++ drop (length f) out = w.1 ∙ placed_front out f (leb-true _ _ l) in
           rw (w.0, s) (take-append_seam f (drop (length f) out))
-      | inr l ↦ absurd (made_refused n (broken Rule.short 0) now out (e ∙ simp l))
+      | inr l ↦ absurd (made_refused n (broken Rule.Short 0) now out (e ∙ simp l))
     ]
 
 module _ {L : Layout} (K : Lawful L) where
@@ -50,8 +50,8 @@ module _ {L : Layout} (K : Lawful L) where
     over_refused : most_records < length bs → ⊥
     unfolding make_of surveyed
     over_refused h =
-        made_refused w.size (broken Rule.too_many 0) w.now out
-        (w.did ∙ ap (λ (v : Survey). surveyed L v (flatten bs) out) (survey_over K bs most_records 0 0 each h))
+        made_refused w.size (broken Rule.TooMany 0) w.now out
+        (w.did ∙ ap (λ (v : Result ℕ Refusal). surveyed L v (flatten bs) out) (survey_over K bs most_records 0 0 each h))
 
     -- `make` takes at most 1,024 bodies
     pub made_listed : Listed L bs

@@ -5,8 +5,8 @@ use mathlib.Core.List.{List, [], ◌∷◌}
 use Prim.Native.Nat.{ℕ, zero, suc, ◌+◌, ◌<◌, ◌≤◌}
 use native.Mathlib.Omega.{arith}
 use Rattle.ground.proofs.Tests.{true_or_false}
-use Rattle.blocks.specs.declared.structure.Checked.{Checked}
-use Rattle.blocks.specs.declared.structure.Checked.TheVariants.{Fine}
+use Rattle.blocks.specs.Scan.{Checked}
+use Rattle.std.specs.Prelude.{Ok}
 use Rattle.wave.specs.declared.state.State.{State}
 use Rattle.faulting.specs.Kinds.{clear}
 use Rattle.stepping.specs.declared.settings.Settings.{Settings}
@@ -90,17 +90,17 @@ module _ (s : Settings) (code : List ℕ) (m : Machine) (x : Answered) (f : ℕ 
       ∙ ap (λ (a : Answered). newest_first a.steps (λ k. stood_before code (f k).state) es) (sym e)
 
 module _ (s : Settings) (code regs device local : List ℕ) where
-  launch_shorter : launch_test s code regs ≡ Fine → (k : ℕ) → k ≤ s.budget → launch_test (budgeted k s) code regs ≡ Fine
+  launch_shorter : launch_test s code regs ≡ Ok tt → (k : ℕ) → k ≤ s.budget → launch_test (budgeted k s) code regs ≡ Ok tt
   launch_shorter e k h =
       passes s code (launchable s s.budget code regs e) k regs (omega (arith, ((launch_passes s code regs).0 e).0.allowed.budget, h))
       (right_length s code regs e)
 
-  resume_shorter : (state : State) → resume_test s state code regs ≡ Fine → (k : ℕ) → k ≤ s.budget → resume_test (budgeted k s) state code regs ≡ Fine
+  resume_shorter : (state : State) → resume_test s state code regs ≡ Ok tt → (k : ℕ) → k ≤ s.budget → resume_test (budgeted k s) state code regs ≡ Ok tt
   resume_shorter state e k h =
       let q = resumable s state code regs e in
       rw (launch_shorter q.launches k h, q.fits)
 
-  launch_seen : launch_test s code regs ≡ Fine
+  launch_seen : launch_test s code regs ≡ Ok tt
       → steps_of s code s.budget (launch_machine s regs device local) []
       ≡ newest_first (launch_of s code regs device local).steps (λ k. stood_before code (launch_of (budgeted k s) code regs device local).state) []
   launch_seen e =
@@ -108,7 +108,7 @@ module _ (s : Settings) (code regs device local : List ℕ) where
       [] (launched s code regs device local e)
       (λ k h. launched (budgeted k s) code regs device local (launch_shorter e k h))
 
-  resume_seen : (state : State) (es : List Step) → resume_test s state code regs ≡ Fine
+  resume_seen : (state : State) (es : List Step) → resume_test s state code regs ≡ Ok tt
       → steps_of s code s.budget (state_machine state regs device local) es
       ≡ newest_first (resume_of s state code regs device local).steps
       (λ k. stood_before code (resume_of (budgeted k s) state code regs device local).state) es
@@ -123,14 +123,14 @@ pub first_seen : (c : Calls) → History c
     ≡ newest_first (first_at c.start c).answer.steps (λ k. stood_before c.code (first_at c.start (with_budget k c)).answer.state) []
 first_seen c h = by c.start h
   where
-    by : (start : Start) → test_at start c ≡ Fine
+    by : (start : Start) → test_at start c ≡ Ok tt
         → (first_at start c).steps
         ≡ newest_first (first_at start c).answer.steps (λ k. stood_before c.code (first_at start (with_budget k c)).answer.state) []
     by by_launch e = launch_seen c.settings c.code c.regs c.device c.local e
     by (from_state state) e = resume_seen c.settings c.code c.regs c.device c.local state [] e
 
 -- ... and so of a later call that isn't refused; one that is makes no step
-pub later_seen : (s : Settings) (code : List ℕ) (b : ℕ) (y : Buffers) (p : Point) → resume_test (budgeted b s) p.answer.state code y.regs ≡ Fine
+pub later_seen : (s : Settings) (code : List ℕ) (b : ℕ) (y : Buffers) (p : Point) → resume_test (budgeted b s) p.answer.state code y.regs ≡ Ok tt
     → (called s code b y p).steps
     ≡ newest_first (called s code b y p).answer.steps (λ k. stood_before code (called s code k y p).answer.state) p.steps
 later_seen s code b y p e =

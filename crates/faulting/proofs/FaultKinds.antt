@@ -14,6 +14,7 @@ use Rattle.lanes.proofs.Bits.{set_of_same}
 use Rattle.lanes.proofs.Members.{has_set_of, has_past, has_ext}
 use Rattle.lanes.proofs.Picking.{set_of_none}
 use Rattle.instructions.specs.declared.instr.Space.{Space}
+use Rattle.faulting.specs.declared.faults.Faults.{Faults}
 use Rattle.faulting.specs.Kinds.{past_kind, no_faults, of_divisors}
 use Rattle.faulting.specs.Causes.{divisor_fault, fault_lanes, kinds_of}
 use Rattle.faulting.proofs.EveryKind.{faults_same}
@@ -88,6 +89,10 @@ other_kind s false true past k a b c = ne_eqb 1 (suc k) (λ e. b (sym e))
 other_kind s false false true k a b c = ne_eqb (past_kind s) (suc k) (λ e. c (sym e))
 other_kind s false false false k a b c = ne_eqb 0 (suc k) (λ e. omega arith)
 
+no_past : (s : Space) (k : ℕ) → 3 < k → k ≡ past_kind s → ⊥
+no_past Space.Device k h e = omega arith
+no_past Space.Local k h e = omega arith
+
 -- the kinds that addresses have, by the memory and which of them are over, odd and past it
 module _ (W t : ℕ) (s : Space) (is_over is_odd is_past : ℕ → Bool) where
   abbrev kind_in : ℕ → ℕ
@@ -95,6 +100,21 @@ module _ (W t : ℕ) (s : Space) (is_over is_odd is_past : ℕ → Bool) where
 
   pub no_other : (k : ℕ) → (suc k ≡ 6 → ⊥) → (suc k ≡ 1 → ⊥) → (suc k ≡ past_kind s → ⊥) → fault_lanes W t kind_in (suc k) ≡ 0
   no_other k a b c = lanes_none W t _ (suc k) (λ i l. other_kind s (is_over i) (is_odd i) (is_past i) k a b c)
+
+  -- so the lanes of these four are all
+  pub four_kinds : (over odd device local : ℕ) → over ≡ fault_lanes W t kind_in 6 → odd ≡ fault_lanes W t kind_in 1
+      → device ≡ fault_lanes W t kind_in 2 → local ≡ fault_lanes W t kind_in 3
+      → ◌≡◌ {A = Faults} (record { over = over; odd = odd; device = device; local = local; divisor = 0; barrier = 0 }) (kinds_of W t kind_in)
+  four_kinds over odd device local v o d l =
+      λ i.
+      record {
+        over = v i;
+        odd = o i;
+        device = d i;
+        local = l i;
+        divisor = sym (no_other 3 (λ e. omega arith) (λ e. omega arith) (no_past s 4 (omega arith))) i;
+        barrier = sym (no_other 4 (λ e. omega arith) (λ e. omega arith) (no_past s 5 (omega arith))) i;
+      }
 
 -- ---- divisors
 

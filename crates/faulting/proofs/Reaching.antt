@@ -17,11 +17,12 @@ use borrow.Author.Tests.{eqb-true, leb-false, ltb-true, not-true, eq-eqb, lt-leb
 use Rattle.ground.specs.Tests.{all_of}
 use Rattle.ground.proofs.Bools.{and_left, and_right, and_both}
 use Rattle.ground.proofs.Tests.{same_test, all_at}
+use Rattle.lanes.specs.Sets.{widest}
 use Rattle.instructions.specs.declared.instr.Space.{Space}
 use Rattle.arith.specs.Arith.{address_of, word_of}
 use Rattle.faulting.specs.Kinds.{past_kind, no_faults}
-use Rattle.faulting.specs.Causes.{is_odd, is_past, is_over, sum_fault, base_of, in_reach, kinds_of}
-use Rattle.faulting.proofs.FaultKinds.{kinds_same, no_kinds}
+use Rattle.faulting.specs.Causes.{is_odd, is_past, is_over, sum_fault, base_of, in_reach, kinds_of, address_faults}
+use Rattle.faulting.proofs.FaultKinds.{kinds_same, no_kinds, narrow_kinds}
 use Rattle.faulting.proofs.Wrapping.{address_told}
 
 -- past the words that an address can name is past all
@@ -34,7 +35,7 @@ named_past words named address e h =
     ∙ lt-leb 0x40000000 (word_of address) h ∙ sym (lt-leb words (word_of address) (omega arith)))
 
 -- so that the kinds of addresses are the same
-pub named_kinds : (s : Space) (W t words named offset : ℕ) (at : List ℕ) → named ≡ min words 0x40000000
+named_kinds : (s : Space) (W t words named offset : ℕ) (at : List ℕ) → named ≡ min words 0x40000000
     → kinds_of W t (λ i. sum_fault s named (base_of (get_or at i 0) offset) offset) ≡ kinds_of W t (λ i. sum_fault s words (base_of (get_or at i 0) offset) offset)
 named_kinds s W t words named offset at e =
     kinds_same W t _ _
@@ -45,7 +46,7 @@ named_kinds s W t words named offset at e =
 
 -- ---- a loop that asks p of every number of a list: what the numbers left still decide
 
-pub asked_more : (p : ℕ → Bool) (l : List ℕ) (k : ℕ) (all next : Bool) → k < length l → all_of p l ≡ (all && all_of p (drop k l))
+asked_more : (p : ℕ → Bool) (l : List ℕ) (k : ℕ) (all next : Bool) → k < length l → all_of p l ≡ (all && all_of p (drop k l))
     → next ≡ (all && p (get_or l k 0)) → all_of p l ≡ (next && all_of p (drop (k + 1) l))
 unfolding all_of
 asked_more p l k all next h e n =
@@ -98,9 +99,22 @@ module _ (offset words : ℕ) where
     apiece true false x y = and-false x
     apiece true true x y = refl
 
-    pub reach_more : (eqb (bit_or bits address % 4) 0 && is_below (max top (base_of address offset)))
+    reach_more : (eqb (bit_or bits address % 4) 0 && is_below (max top (base_of address offset)))
         ≡ ((eqb (bits % 4) 0 && is_below top) && in_reach offset words address)
     reach_more = rw (bits_more, top_more (base_of address offset)) (apiece (eqb (bits % 4) 0) (is_below top) _ _)
+
+  -- a turn's: `next` is the higher of the highest base and that of address k
+  pub reach_turn : (at : List ℕ) (W k bits top next : ℕ) → k < W → W ≤ length at
+      → all_of (in_reach offset words) (take W at) ≡ ((eqb (bits % 4) 0 && is_below top) && all_of (in_reach offset words) (drop k (take W at)))
+      → next ≡ max top (base_of (get_or at k 0) offset)
+      → all_of (in_reach offset words) (take W at)
+      ≡ ((eqb (bit_or bits (get_or at k 0) % 4) 0 && is_below next) && all_of (in_reach offset words) (drop (k + 1) (take W at)))
+  reach_turn at W k bits top next b l h e =
+      let tested = eqb (bits % 4) 0 && is_below top in
+      asked_more (in_reach offset words) (take W at) k tested _ (omega (arith, length-take-le W at l)) h
+      (ap (λ (n : ℕ). eqb (bit_or bits (get_or at k 0) % 4) 0 && is_below n) e
+      ∙ reach_more bits top (get_or at k 0)
+      ∙ ap (λ (x : ℕ). tested && in_reach offset words x) (sym (get_or-take W at k 0 b)))
 
   -- before the first: where some base is below the memory's end a base of 0 is
   pub reach_none : (l : List ℕ) → 0 < length l → all_of (in_reach offset words) l ≡ (is_below 0 && all_of (in_reach offset words) l)
@@ -145,3 +159,11 @@ all_in_reach s W t words offset at w low o long h =
     let n : i < length (take W at) = omega (arith, length-take-le W at long) in
     unfaulted s words offset (get_or at i 0) w (low i) o
     (ap (in_reach offset words) (sym (get_or-take W at i 0 b)) ∙ all_at (in_reach offset words) (take W at) i 0 h n))
+
+-- ---- a width past the widest wave's, and more words than an address can name, change no fault
+
+-- so what the code asks of a memory with a narrowed width is what the definition says
+pub narrow_faults : (s : Space) {told : Space} (W : ℕ) {narrow : ℕ} (at : List ℕ) (offset : ℕ) {added : ℕ} (words : ℕ) {named : ℕ} (t : ℕ) → narrow ≡ min W widest
+    → told ≡ s → added ≡ offset → named ≡ min words 0x40000000 → t < 2 ^ widest
+    → address_faults told narrow at added named t ≡ address_faults s W at offset words t
+narrow_faults s W at offset words t e is by n b = rw (is, by) (named_kinds s _ t words _ offset at n ∙ narrow_kinds W t _ _ e b)

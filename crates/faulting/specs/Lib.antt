@@ -1,2 +1,4 @@
 pub mod Kinds
 pub mod Causes
+pub mod AddressKinds
+pub mod Asks

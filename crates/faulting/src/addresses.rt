@@ -1,24 +1,22 @@
 // The lanes whose addresses fault.
-ghost use Rattle.std.specs.Prelude.{◌≡◌, ◌≤◌, min, max, get_or, take};
+ghost use Rattle.std.specs.Prelude.{◌≡◌, ◌≤◌, min, eqb, get_or, take};
 ghost use Rattle.ground.specs.Tests.{all_of};
 ghost use Rattle.lanes.specs.Sets.{widest};
 ghost use Rattle.faulting.specs.Kinds.{past_kind};
 ghost use Rattle.faulting.specs.Causes.{is_past, is_over, sum_fault, base_of, in_reach, fault_lanes, address_faults};
+ghost use Rattle.faulting.specs.AddressKinds.{number, number_of};
 
-use crate::faults::{Faults, KINDS, from_lanes, no_faults};
+use crate::faults::{Faults, no_faults};
+use crate::picking::lanes_where;
 use arith::sums::{address, sub};
 use instructions::instr::Space;
-use lanes::{ByLane, Lanes, narrowed};
+use lanes::{ByLane, Lanes, Width};
 
 // How many of a memory's words an address can name.
 fn nameable(words: usize) -> u32
     ensures { result ≡ min words 0x40000000 }
 {
-    if words < 0x4000_0000 {
-        words as u32
-    } else {
-        0x4000_0000
-    }
+    words.min(0x4000_0000) as u32
 }
 
 // Whether an address is past a memory of so many words.
@@ -35,107 +33,116 @@ fn is_over(base: u32, offset: u32) -> bool
     address(base, offset) < offset
 }
 
-// The larger of two numbers.
-fn larger(a: u32, b: u32) -> u32
-    ensures { result ≡ max a b }
-{
-    if a < b { b } else { a }
+// A kind of fault that an address has.
+#[derive(Clone, Copy, PartialEq, Eq)]
+enum AddressKind {
+    // Not a multiple of 4.
+    Odd,
+    // Past the device memory.
+    PastDevice,
+    // Past the local memory.
+    PastLocal,
+    // A base plus an offset that reaches 2^32.
+    Over,
 }
-
-// Whether no lane's address faults, of the lanes that do not execute too, in a memory of so many words: by the bits that any address has,
-// and by the highest base, whose address is the highest unless it has wrapped round.
-fn all_reach(at: ByLane, offset: u32, words: u32, width: u32) -> bool
-    requires { (width ≤ widest) × (words ≤ 0x40000000) }
-    ensures { result ≡ all_of (in_reach offset words) (take width at) }
-{
-    if width == 0 {
-        return true;
-    }
-    let end = width as usize;
-    let mut bits: u32 = 0;
-    let mut top: u32 = 0;
-    let mut k: usize = 0;
-    while k < end {
-        bits = bits | at[k];
-        top = larger(top, sub(at[k], offset));
-        k += 1;
-    }
-    let beyond = past_end(address(top, offset), words);
-    (bits % 4 == 0) & !is_over(top, offset) & !beyond
-}
-
-// The kinds' numbers.
-const ODD: u32 = 1;
-
-const PAST_DEVICE: u32 = 2;
-
-const PAST_LOCAL: u32 = 3;
-
-const OVER: u32 = 6;
 
 // The kind of an address past a memory.
-fn past_kind(space: Space) -> u32
-    ensures { result ≡ past_kind space }
+fn past_kind(space: Space) -> AddressKind
+    ensures { number result ≡ past_kind space }
 {
     match space {
-        Space::Device => PAST_DEVICE,
-        Space::Local => PAST_LOCAL,
+        Space::Device => AddressKind::PastDevice,
+        Space::Local => AddressKind::PastLocal,
     }
 }
 
-// The kind of fault of an address that the offset was added to, in a memory of so many words; 0 for none.
-fn kind_at(space: Space, address: u32, offset: u32, words: u32) -> u32
-    ensures { result ≡ sum_fault space words (base_of address offset) offset }
-{
-    if is_over(sub(address, offset), offset) {
-        return OVER;
-    }
-    let unaligned = address % 4 != 0;
-    if unaligned {
-        return ODD;
-    }
-    if past_end(address, words) {
-        return past_kind(space);
-    }
-    0
-}
-
-// The lanes of `t` whose address has this kind of fault.
-fn lanes_of(
-    kind: u32,
+// What the addresses of an instruction reach: a memory, by the offset that was added to each and how many of its words they can name.
+#[derive(Clone, Copy)]
+struct Reach {
     space: Space,
-    at: ByLane,
     offset: u32,
     words: u32,
-    t: Lanes,
-    width: u32,
-) -> Lanes
-    requires { width ≤ widest }
-    ensures { result ≡ fault_lanes width t (λ i. sum_fault space words (base_of (get_or at i 0) offset) offset) kind }
-{
-    let mut set: Lanes = 0;
-    let mut i: u32 = 0;
-    while i < width {
-        let k = i as usize;
-        let found = kind_at(space, at[k], offset, words) == kind;
-        set = lanes::union(set, lanes::only(i, lanes::has(t, i) & found));
-        i += 1;
-    }
-    set
+    ghost named: { words ≤ 0x40000000 },
 }
 
-// The faults of the lanes `t`, kind by kind.
-fn each_kind(space: Space, at: ByLane, offset: u32, words: u32, t: Lanes, width: u32) -> Faults
-    requires { width ≤ widest }
-    ensures { result ≡ address_faults space width at offset words t }
-{
-    let mut lanes = [0u32; KINDS];
-    let mut k: usize = 0;
-    while k < KINDS {
-        lanes[k] = lanes_of(k as u32 + 1, space, at, offset, words, t, width);
-        k += 1;
+impl Reach {
+    // Of a memory of so many words.
+    fn of(space: Space, offset: u32, words: usize) -> Reach
+        ensures space { result.space ≡ space }
+        ensures offset { result.offset ≡ offset }
+        ensures words { result.words ≡ min words 0x40000000 }
+    {
+        Reach {
+            space,
+            offset,
+            words: nameable(words),
+        }
     }
-    from_lanes(lanes)
+
+    // Whether no lane's address faults, of the lanes that do not execute too: by the bits that any address has, and by the highest base,
+    // whose address is the highest unless it has wrapped round.
+    fn has_all(self, at: &ByLane, width: Width) -> bool
+        ensures { result ≡ all_of (in_reach self.offset self.words) (take width.lanes at.now) }
+    {
+        if width.lanes == 0 {
+            return true;
+        }
+        let offset = self.offset;
+        let mut bits: u32 = 0;
+        let mut top: u32 = 0;
+        for k in 0..width.lanes as usize {
+            bits |= at[k];
+            top = top.max(sub(at[k], offset));
+        }
+        let beyond = past_end(address(top, offset), self.words);
+        (bits % 4 == 0) & !is_over(top, offset) & !beyond
+    }
+
+    // The kind of fault of an address, which the offset was added to.
+    fn kind_at(self, address: u32) -> Option<AddressKind>
+        ensures { number_of result ≡ sum_fault self.space self.words (base_of address self.offset) self.offset }
+    {
+        if is_over(sub(address, self.offset), self.offset) {
+            return Some(AddressKind::Over);
+        }
+        let unaligned = address % 4 != 0;
+        if unaligned {
+            return Some(AddressKind::Odd);
+        }
+        if past_end(address, self.words) {
+            return Some(past_kind(self.space));
+        }
+        None
+    }
+
+    // Whether an address has this kind of fault.
+    fn has_kind(self, kind: AddressKind, address: u32) -> bool
+        ensures { result ≡ eqb (sum_fault self.space self.words (base_of address self.offset) self.offset) (number kind) }
+    {
+        self.kind_at(address) == Some(kind)
+    }
+
+    // The lanes of `t` whose address has this kind of fault.
+    fn lanes_of(self, kind: AddressKind, at: &ByLane, t: Lanes, width: Width) -> Lanes
+        ensures { result ≡ fault_lanes width.lanes t (λ i. sum_fault self.space self.words (base_of (get_or at.now i 0) self.offset) self.offset) (number kind) }
+    {
+        lanes_where(at, t, width, |address| self.has_kind(kind, address))
+    }
+
+    // The faults of the lanes `t`, kind by kind.
+    fn each_kind(self, at: &ByLane, t: Lanes, width: Width) -> Faults
+        ensures { result ≡ address_faults self.space width.lanes at.now self.offset self.words t }
+    {
+        let of = |kind| self.lanes_of(kind, at, t, width);
+        Faults {
+            over: of(AddressKind::Over),
+            odd: of(AddressKind::Odd),
+            device: of(AddressKind::PastDevice),
+            local: of(AddressKind::PastLocal),
+            divisor: 0,
+            barrier: 0,
+        }
+    }
 }
 
 // The faults of the lanes `t` at their addresses, each a base with the offset added, in a memory of so many words. The lanes are looked at by
@@ -150,13 +157,12 @@ pub fn address_faults(
 ) -> Faults
     ensures { result ≡ address_faults space width at offset words t }
 {
-    let end = narrowed(width);
-    let named = nameable(words);
-    if all_reach(at, offset, named, end) {
+    let wave = Width::of(width);
+    if Reach::of(space, offset, words).has_all(&at, wave) {
         return no_faults();
     }
     match space {
-        Space::Device => each_kind(Space::Device, at, offset, named, t, end),
-        Space::Local => each_kind(Space::Local, at, offset, named, t, end),
+        Space::Device => Reach::of(Space::Device, offset, words).each_kind(&at, t, wave),
+        Space::Local => Reach::of(Space::Local, offset, words).each_kind(&at, t, wave),
     }
 }

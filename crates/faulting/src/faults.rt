@@ -10,7 +10,7 @@ pub const KINDS: usize = 6;
 
 // The lanes of each kind of fault, in the order in which they are tested: 6 a base plus an offset that reaches 2^32, 1 an address that is
 // not a multiple of 4, 2 device and 3 local address past the memory, 4 a divisor of zero, 5 a barrier that some lane has not reached.
-#[derive(Clone, Copy)]
+#[derive(Clone, Copy, PartialEq, Eq)]
 pub struct Faults {
     pub over: Lanes,
     pub odd: Lanes,
@@ -53,12 +53,8 @@ pub(crate) fn of_divisors(lanes: Lanes) -> Faults
     ensures { result ≡ of_divisors lanes }
 {
     Faults {
-        odd: 0,
-        device: 0,
-        local: 0,
         divisor: lanes,
-        barrier: 0,
-        over: 0,
+        ..no_faults()
     }
 }
 
@@ -67,12 +63,8 @@ pub fn of_barrier(lanes: Lanes) -> Faults
     ensures { result ≡ of_barrier lanes }
 {
     Faults {
-        odd: 0,
-        device: 0,
-        local: 0,
-        divisor: 0,
         barrier: lanes,
-        over: 0,
+        ..no_faults()
     }
 }
 
@@ -80,25 +72,21 @@ pub fn of_barrier(lanes: Lanes) -> Faults
 pub fn is_clear(f: Faults) -> bool
     ensures { result ≡ clear f }
 {
-    (f.odd == 0)
-        & (f.device == 0)
-        & (f.local == 0)
-        & (f.divisor == 0)
-        & (f.barrier == 0)
-        & (f.over == 0)
+    f == no_faults()
 }
 
 // The lanes of a kind, by its number; none where there is no such kind.
+#[tactic(auto, unfolding(crate::specs::Kinds::lanes_among))]
 pub fn lanes_of_kind(kind: usize, f: Faults) -> Lanes
     ensures { result ≡ lanes_of_kind kind f }
 {
-    let lanes = [f.odd, f.device, f.local, f.divisor, f.barrier, f.over];
-    if kind < 1 {
-        return 0;
+    match kind {
+        1 => f.odd,
+        2 => f.device,
+        3 => f.local,
+        4 => f.divisor,
+        5 => f.barrier,
+        6 => f.over,
+        _ => 0,
     }
-    if KINDS < kind {
-        return 0;
-    }
-    let k = kind - 1;
-    lanes[k]
 }

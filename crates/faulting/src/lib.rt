@@ -4,3 +4,4 @@
 pub mod addresses;
 pub mod divisors;
 pub mod faults;
+mod picking;

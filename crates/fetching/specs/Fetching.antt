@@ -1,26 +1,20 @@
 -- The instruction at a place and how many words it has, as its words say it, with no test of them; for code that has passed the check.
-use Rattle.std.specs.Prelude.{false, List, [], ◌∷◌, ℕ, get_or, drop}
+use Rattle.std.specs.Prelude.{false, List, [], ◌∷◌, ℕ, get_or, drop, Option, Some, None}
 use Rattle.instructions.specs.declared.instr.ControlOp.{ControlOp}
 use Rattle.instructions.specs.declared.instr.Instr.{Instr}
 use Rattle.instructions.specs.declared.instr.Op.{Op}
-use Rattle.fetching.specs.declared.ControlIn.{ControlIn}
-use Rattle.fetching.specs.declared.Fetched.{Fetched}
-use Rattle.opcodes.specs.declared.table.FoundOp.{FoundOp}
+use Rattle.words.specs.declared.reading.Fetched.{Fetched}
 use Rattle.opcodes.specs.Table.{op_of}
 use Rattle.instructions.specs.Forms.{limits_of, size}
-use Rattle.words.specs.Layout.{opcode_in, modifier_in, instr, instr_in}
-
--- an instruction of so many words
-abbrev pub counted : Instr → ℕ → Fetched
-counted i n = record { instr = i; words = n }
+use Rattle.words.specs.Layout.{opcode_in, modifier_in, instr, instr_in, counted}
 
 abbrev pub nop : Fetched
 nop = counted (instr (Op.Control ControlOp.Nop) (record { pred = 0; negate = false }) 0 0 0 0 0 0) 1
 
 -- the words w and v, once their operation has been looked up
-abbrev pub said_by : FoundOp → ℕ → ℕ → Fetched
-said_by FoundOp.Missing w v = nop
-said_by (FoundOp.Carried o) w v = counted (instr_in (limits_of o).second o w v) (size o)
+abbrev pub said_by : Option Op → ℕ → ℕ → Fetched
+said_by None w v = nop
+said_by (Some o) w v = counted (instr_in (limits_of o).second o w v) (size o)
 
 abbrev pub said_from : List ℕ → Fetched
 said_from [] = nop
@@ -34,16 +28,16 @@ abbrev pub instr_at : List ℕ → ℕ → Instr
 instr_at ws at = (fetch_at ws at).instr
 
 -- the control operation that an operation is, if it is one
-abbrev pub control_in : Op → ControlIn
-control_in (Op.Control o) = ControlIn.Control o
-control_in (Op.Two o) = ControlIn.Other
-control_in (Op.Compare o) = ControlIn.Other
-control_in (Op.One o) = ControlIn.Other
-control_in Op.Special = ControlIn.Other
-control_in Op.Number = ControlIn.Other
-control_in (Op.Load s) = ControlIn.Other
-control_in (Op.Store s) = ControlIn.Other
-control_in (Op.Atomic o) = ControlIn.Other
-control_in Op.Cas = ControlIn.Other
-control_in (Op.Wave o) = ControlIn.Other
-control_in Op.Shuffle = ControlIn.Other
+abbrev pub control_in : Op → Option ControlOp
+control_in (Op.Control o) = Some o
+control_in (Op.Two o) = None
+control_in (Op.Compare o) = None
+control_in (Op.One o) = None
+control_in Op.Special = None
+control_in Op.Number = None
+control_in (Op.Load s) = None
+control_in (Op.Store s) = None
+control_in (Op.Atomic o) = None
+control_in Op.Cas = None
+control_in (Op.Wave o) = None
+control_in Op.Shuffle = None

@@ -13,13 +13,6 @@ use std::rt::Env;
 // Room for any path: the system takes none that is longer.
 pub const PATH_ROOM: usize = 4096;
 
-// How many bytes were read; or that reading failed.
-#[derive(Clone, Copy)]
-pub enum Input {
-    Read(usize),
-    Failed,
-}
-
 // Says that something failed with the file of this name, and why. A name that is no text is said as its bytes.
 pub fn fail(rt: &impl Eprint, name: &[u8], error: &Error) {
     let _ = match str::from_utf8(name) {
@@ -46,6 +39,7 @@ fn read_full<R: Read>(input: &mut R, room: &mut [u8]) -> Result<usize>
     ensures taken { IfOk result (λ n. IsTakenFrom (R.remaining input.old) (R.remaining input.new) n room.new) }
 {
     let mut size = 0;
+    // A `while`, since the turns are as many as the system's answers, and read_to_end takes a heap.
     while size < room.len() {
         let more = input.read(&mut room[size..])?;
         if more == 0 {
@@ -56,21 +50,27 @@ fn read_full<R: Read>(input: &mut R, room: &mut [u8]) -> Result<usize>
     Ok(size)
 }
 
-// Reads into `room` up to the input's end, or until the room is full.
-pub fn read_whole<R: Read>(rt: &impl Eprint, name: &[u8], input: &mut R, room: &mut [u8]) -> Input
+// Reads into `room` up to the input's end, or until the room is full, and answers how many bytes; none where reading failed, which is said
+// on standard error.
+pub fn read_whole<R: Read>(
+    rt: &impl Eprint,
+    name: &[u8],
+    input: &mut R,
+    room: &mut [u8],
+) -> Option<usize>
     ensures within { Within result room.new }
     ensures taken { HoldsWhatWasRead result (R.remaining input.old) (R.remaining input.new) room.new }
 {
     match read_full(input, room) {
-        Ok(size) => Input::Read(size),
+        Ok(size) => Some(size),
         Err(error) => {
             fail(rt, name, &error);
-            Input::Failed
+            None
         }
     }
 }
 
-// Writes all bytes, and answers whether that went well.
+// Writes all bytes, and answers whether that went well. What failed has been said, so a `bool` is all that is left to answer.
 pub fn write_whole<W: Write>(rt: &impl Eprint, name: &[u8], output: &mut W, bytes: &[u8]) -> bool
     ensures { IsTrue result → Appends (W.contents output.old) (W.contents output.new) bytes.now }
 {

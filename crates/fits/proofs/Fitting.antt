@@ -15,7 +15,8 @@ use Rattle.lanes.proofs.Bits.{bit_le, bit_zero, bit_or_lem, set_ext, apart_sum, 
 use Rattle.blocks.specs.declared.item.Reading.{Reading}
 use Rattle.blocks.specs.Code.{code_of}
 use Rattle.blocks.specs.Open.{Open, part_number_of, opener_of}
-use Rattle.nesting.specs.OpenAt.{Found, nowhere, there, open_at}
+use Rattle.std.specs.Prelude.{Some, None}
+use Rattle.nesting.specs.OpenAt.{Found, open_at}
 use Rattle.lanes.specs.declared.said.Block.{Block}
 use Rattle.wave.specs.declared.state.Hot.{Hot}
 use Rattle.wave.specs.Wave.{Wave, Preds, wave_of, preds_of}
@@ -164,15 +165,15 @@ yes_agree (b ∷ p) (x ∷ o) s =
     rw (eq-eqb b.part (part_number_of x) s.0, eq-eqb b.opener (opener_of x) s.1, yes_agree p o s.2)
 
 place_yes : (f : Found) (p : List Block) → place_test f p ≡ true → OpenThere f p
-place_yes nowhere p t = never t
-place_yes (there o) p t = agree_yes p o t
+place_yes None p t = never t
+place_yes (Some o) p t = agree_yes p o t
 
 yes_place : (f : Found) (p : List Block) → OpenThere f p → place_test f p ≡ true
-yes_place nowhere p s = absurd s
-yes_place (there o) p s = yes_agree p o s
+yes_place None p s = absurd s
+yes_place (Some o) p s = yes_agree p o s
 
 -- ---- the whole state
-module _ (code : List ℕ) (by : Reading) (n : ℕ) (h : Hot) (xs : List ℕ) where
+module _ (code : List ℕ) (by : Reading) (n : ℕ) (h : Hot) (xs : List Block) where
   fits_yes : fits_test code by n h xs ≡ true → Fits code by n h xs
   fits_yes t =
       let c1 : Bool = leb n widest in

@@ -11,8 +11,10 @@ use Rattle.lanes.specs.Sets.{bit, first, widest}
 use Rattle.lanes.proofs.Bits.{within_first_lt}
 use Rattle.blocks.specs.declared.item.Reading.{Reading}
 use Rattle.blocks.specs.Code.{code_of}
-use Rattle.blocks.specs.Open.{Part, before, after, looping, Open, opened_at, part_number}
-use Rattle.nesting.specs.OpenAt.{Found, nowhere, there, open_at}
+use Rattle.blocks.specs.declared.rules.Part.{Part}
+use Rattle.blocks.specs.Open.{Open, opened_at, part_number}
+use Rattle.std.specs.Prelude.{Some, None}
+use Rattle.nesting.specs.OpenAt.{Found, open_at}
 use Rattle.blocks.proofs.Widths.{code_fits}
 use Rattle.nesting.proofs.Openers.{EachOpened, each_opened}
 use Rattle.lanes.specs.declared.said.Block.{Block}
@@ -37,9 +39,9 @@ AllSized words [] = Unit
 AllSized words (b ∷ p) = Sized words b × AllSized words p
 
 part_sized : (part : Part) → (before_else ≤ part_number part) × (part_number part ≤ loop_part)
-part_sized before = (omega arith, omega arith)
-part_sized after = (omega arith, omega arith)
-part_sized looping = (omega arith, omega arith)
+part_sized Part.Before = (omega arith, omega arith)
+part_sized Part.After = (omega arith, omega arith)
+part_sized Part.Loop = (omega arith, omega arith)
 
 module _ (code : List ℕ) (by : Reading) (n : ℕ) (wide : n ≤ widest) where
   sized : (h : ℕ) (m : ℕ → ℕ) (p : List Block) (o : List Open) → Same p o → EachOpened (code_of code by) o
@@ -67,8 +69,8 @@ module _ (code : List ℕ) (by : Reading) (n : ℕ) (wide : n ≤ widest) where
   path_sized w ps f = at_place (open_at (code_of code by) w.place) refl f.blocks
     where
       at_place : (x : Found) → open_at (code_of code by) w.place ≡ x → OpenThere x w.path → AllSized (length code) w.path
-      at_place nowhere e s = absurd s
-      at_place (there o) e s =
+      at_place None e s = absurd s
+      at_place (Some o) e s =
           sized w.halted (λ i. bit w.active i) w.path o s
           (each_opened (code_of code by) (code_fits code by) w.place o e)
           (fits_lanes n w ps f.sets).0 f.sets.quiet

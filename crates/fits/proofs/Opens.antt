@@ -15,7 +15,8 @@ use Rattle.words.proofs.Standing.{stood}
 use Rattle.blocks.specs.declared.item.Reading.{Reading}
 use Rattle.blocks.specs.Code.{code_of}
 use Rattle.blocks.specs.Open.{Open}
-use Rattle.nesting.specs.OpenAt.{Found, nowhere, there, open_at}
+use Rattle.std.specs.Prelude.{Some, None}
+use Rattle.nesting.specs.OpenAt.{Found, open_at}
 use Rattle.nesting.specs.Nesting.{Nested}
 use Rattle.blocks.proofs.Widths.{code_fits}
 use Rattle.nesting.proofs.Induction.{found_within}
@@ -32,7 +33,7 @@ use Rattle.fits.proofs.Stays.{same_length}
 
 module _ (code : List ℕ) (by : Reading) (nested : Nested code by) (place : ℕ) (path : List Block) where
   -- an instruction stands where the pass comes by, or the code ends
-  first_word : (o : List Open) → open_at (code_of code by) place ≡ there o → ((x : Instr) × Stands code place x) ⊎ (place ≡ length code)
+  first_word : (o : List Open) → open_at (code_of code by) place ≡ Some o → ((x : Instr) × Stands code place x) ⊎ (place ≡ length code)
   first_word o e =
       dite (dec_lt place (length code))
       (λ h.
@@ -41,8 +42,8 @@ module _ (code : List ℕ) (by : Reading) (nested : Nested code by) (place : ℕ
       (λ h. inr (omega (arith, found_within (code_of code by) (code_fits code by) place o e)))
 
   opens : (f : Found) → open_at (code_of code by) place ≡ f → OpenThere f path → Opens code by place path
-  opens nowhere e s = absurd s
-  opens (there o) e s =
+  opens None e s = absurd s
+  opens (Some o) e s =
       let x = (opened_if code by place o).0 e in
       record { first_word = first_word o e; room = x.0; blocks = o; opened = x.1; same = s }
 
@@ -53,7 +54,7 @@ module _ (code : List ℕ) (by : Reading) (nested : Nested code by) (place : ℕ
     λ o. subst (λ (f : Found). OpenThere f path) (sym ((opened_if code by place o.blocks).1 (o.room, o.opened))) o.same,
   )
 
-module _ (code : List ℕ) (by : Reading) (n : ℕ) (nested : Nested code by) (wide : n ≤ widest) (h : Hot) (xs : List ℕ) where
+module _ (code : List ℕ) (by : Reading) (n : ℕ) (nested : Nested code by) (wide : n ≤ widest) (h : Hot) (xs : List Block) where
   -- the wave that is read of a depth of at most 32 is the whole one
   whole : h.depth ≤ nesting → wave_of h xs ≡ whole_wave h xs
   whole deep =

@@ -16,13 +16,16 @@ use Rattle.instructions.specs.declared.instr.ControlOp.TheVariants.{If, Else, En
 use Rattle.lanes.specs.Sets.{bit, first, widest}
 use Rattle.blocks.specs.declared.item.Item.{Item}
 use Rattle.blocks.specs.declared.item.Reading.{Reading}
-use Rattle.blocks.specs.declared.structure.Checked.TheVariants.{Fine}
+use Rattle.std.specs.Prelude.{Result, Ok}
+use Rattle.refusals.specs.declared.Refusal.{Refusal}
 use Rattle.blocks.specs.Item.{control_item, item_at}
 use Rattle.blocks.specs.Code.{code_of}
-use Rattle.blocks.specs.Open.{Open, opened_at, before, after, looping, in_loop}
+use Rattle.blocks.specs.declared.rules.Part.{Part}
+use Rattle.blocks.specs.Open.{Open, opened_at, in_loop}
 use Rattle.lanes.specs.Blocks.{nesting}
 use Rattle.blocks.specs.Scan.{check_of}
-use Rattle.nesting.specs.OpenAt.{Found, nowhere, there, open_at}
+use Rattle.std.specs.Prelude.{Some, None}
+use Rattle.nesting.specs.OpenAt.{Found, open_at}
 use Rattle.blocks.proofs.Widths.{code_fits}
 use Rattle.nesting.proofs.Induction.{open_at_start}
 use Rattle.nesting.proofs.Openers.{at_most, EachOpened, each_opened}
@@ -70,19 +73,19 @@ unfolding in_loop
 some_loop [] [] s l = never l
 some_loop [] (x ∷ o) s l = absurd s
 some_loop (b ∷ p) [] s l = absurd s
-some_loop (b ∷ p) (opened_at before q ∷ o) s l = rw s.0 (some_loop p o s.2 l)
-some_loop (b ∷ p) (opened_at after q ∷ o) s l = rw s.0 (some_loop p o s.2 l)
-some_loop (b ∷ p) (opened_at looping q ∷ o) s l = rw s.0 tt
+some_loop (b ∷ p) (opened_at Part.Before q ∷ o) s l = rw s.0 (some_loop p o s.2 l)
+some_loop (b ∷ p) (opened_at Part.After q ∷ o) s l = rw s.0 (some_loop p o s.2 l)
+some_loop (b ∷ p) (opened_at Part.Loop q ∷ o) s l = rw s.0 tt
 
 -- what the code has open where the wave's blocks are
 record Found-there (f : Found) (p : List Block) : Type 0 where
   blocks : List Open
-  found : f ≡ there blocks
+  found : f ≡ Some blocks
   same : Same p blocks
 
 found_there : (f : Found) (p : List Block) → OpenThere f p → Found-there f p
-found_there nowhere p s = absurd s
-found_there (there o) p s = record { blocks = o; found = refl; same = s }
+found_there None p s = absurd s
+found_there (Some o) p s = record { blocks = o; found = refl; same = s }
 
 -- no more blocks are open than there is room for
 pub path_room : (words : List ℕ) (by : Reading) (n : ℕ) (w : Wave) (ps : Preds) → WaveFits words by n w ps → length w.path ≤ nesting
@@ -110,14 +113,14 @@ state_fits_lem words by n w ps l f =
     }
 
 -- ---- code of so many words that no place in it wraps
-module _ (words : List ℕ) (by : Reading) (checked : check_of (code_of words by) ≡ Fine) (short : length words < 2 ^ 32) where
+module _ (words : List ℕ) (by : Reading) (checked : check_of (code_of words by) ≡ Ok tt) (short : length words < 2 ^ 32) where
   -- the blocks o are open at a place, and p are the same
-  stands : (at : ℕ) (p : List Block) (o : List Open) → open_at (code_of words by) at ≡ there o → Same p o
+  stands : (at : ℕ) (p : List Block) (o : List Open) → open_at (code_of words by) at ≡ Some o → Same p o
       → OpenThere (open_at (code_of words by) at) p
   stands at p o e s = rw e s
 
   -- one word on
-  stands_next : (at : ℕ) (p : List Block) (o : List Open) → at < length words → open_at (code_of words by) (at + 1) ≡ there o → Same p o
+  stands_next : (at : ℕ) (p : List Block) (o : List Open) → at < length words → open_at (code_of words by) (at + 1) ≡ Some o → Same p o
       → OpenThere (open_at (code_of words by) (next at)) p
   stands_next at p o h e s =
       let z : next at ≡ at + 1 = mod-eq_of_lt (omega arith) in
@@ -129,57 +132,57 @@ module _ (words : List ℕ) (by : Reading) (checked : check_of (code_of words by
     blocks : OpenThere (open_at (code_of words by) v.place) v.path
 
   module _ (w : Wave) (h : w.place < length words) where
-    else_stays : (p : List Block) (o : List Open) → Same p o → Allowed (code_of words by) Item.Else w.place o
+    else_stays : (p : List Block) (o : List Open) → Same p o → Allowed (code_of words by) (Ok Item.Else) w.place o
         → TopHalf p × OpenThere (open_at (code_of words by) (else_on p w).place) (else_on p w).path
     else_stays [] [] s a = absurd a
     else_stays [] (x ∷ o) s a = absurd s
     else_stays (b ∷ p) [] s a = absurd s
-    else_stays (b ∷ p) (opened_at before q ∷ o) s a =
-        (s.0, stands_next w.place (else_on (b ∷ p) w).path (opened_at after q ∷ o) h a (refl, s.1, s.2))
-    else_stays (b ∷ p) (opened_at after q ∷ o) s a = absurd a
-    else_stays (b ∷ p) (opened_at looping q ∷ o) s a = absurd a
+    else_stays (b ∷ p) (opened_at Part.Before q ∷ o) s a =
+        (s.0, stands_next w.place (else_on (b ∷ p) w).path (opened_at Part.After q ∷ o) h a (refl, s.1, s.2))
+    else_stays (b ∷ p) (opened_at Part.After q ∷ o) s a = absurd a
+    else_stays (b ∷ p) (opened_at Part.Loop q ∷ o) s a = absurd a
 
-    endif_stays : (p : List Block) (o : List Open) → Same p o → Allowed (code_of words by) Item.Endif w.place o
+    endif_stays : (p : List Block) (o : List Open) → Same p o → Allowed (code_of words by) (Ok Item.Endif) w.place o
         → TopLoop false p × OpenThere (open_at (code_of words by) (endif_on p w).place) (endif_on p w).path
     endif_stays [] [] s a = absurd a
     endif_stays [] (x ∷ o) s a = absurd s
     endif_stays (b ∷ p) [] s a = absurd s
-    endif_stays (b ∷ p) (opened_at before q ∷ o) s a = (rw s.0, stands_next w.place p o h a s.2)
-    endif_stays (b ∷ p) (opened_at after q ∷ o) s a = (rw s.0, stands_next w.place p o h a s.2)
-    endif_stays (b ∷ p) (opened_at looping q ∷ o) s a = absurd a
+    endif_stays (b ∷ p) (opened_at Part.Before q ∷ o) s a = (rw s.0, stands_next w.place p o h a s.2)
+    endif_stays (b ∷ p) (opened_at Part.After q ∷ o) s a = (rw s.0, stands_next w.place p o h a s.2)
+    endif_stays (b ∷ p) (opened_at Part.Loop q ∷ o) s a = absurd a
 
     endloop_case : (c : Bool) (b : Block) (p : List Block) (q : ℕ) (o : List Open) → eqb (bit_or w.active b.again) 0 ≡ c
-        → Same (b ∷ p) (opened_at looping q ∷ o) → Allowed (code_of words by) Item.Endloop w.place (opened_at looping q ∷ o) → q < length words
+        → Same (b ∷ p) (opened_at Part.Loop q ∷ o) → Allowed (code_of words by) (Ok Item.Endloop) w.place (opened_at Part.Loop q ∷ o) → q < length words
         → OpenThere (open_at (code_of words by) (endloop_on (b ∷ p) w).place) (endloop_on (b ∷ p) w).path
     endloop_case true b p q o e s a l = rw e (stands_next w.place p o h a.0 s.2)
-    endloop_case false b p q o e s a l = rw (e, s.1) (stands_next q _ (opened_at looping q ∷ o) l a.1 (s.0, refl, s.2))
+    endloop_case false b p q o e s a l = rw (e, s.1) (stands_next q _ (opened_at Part.Loop q ∷ o) l a.1 (s.0, refl, s.2))
 
     endloop_stays : (p : List Block) (o : List Open) → Same p o → EachOpened (code_of words by) o
-        → Allowed (code_of words by) Item.Endloop w.place o
+        → Allowed (code_of words by) (Ok Item.Endloop) w.place o
         → TopLoop true p × OpenThere (open_at (code_of words by) (endloop_on p w).place) (endloop_on p w).path
     unfolding EachOpened
     endloop_stays [] [] s r a = absurd a
     endloop_stays [] (x ∷ o) s r a = absurd s
     endloop_stays (b ∷ p) [] s r a = absurd s
-    endloop_stays (b ∷ p) (opened_at before q ∷ o) s r a = absurd a
-    endloop_stays (b ∷ p) (opened_at after q ∷ o) s r a = absurd a
-    endloop_stays (b ∷ p) (opened_at looping q ∷ o) s r a = (rw s.0, endloop_case _ b p q o refl s a r.0.in_code)
+    endloop_stays (b ∷ p) (opened_at Part.Before q ∷ o) s r a = absurd a
+    endloop_stays (b ∷ p) (opened_at Part.After q ∷ o) s r a = absurd a
+    endloop_stays (b ∷ p) (opened_at Part.Loop q ∷ o) s r a = (rw s.0, endloop_case _ b p q o refl s a r.0.in_code)
 
-    barrier_stays : (c : Bool) (o : List Open) → open_at (code_of words by) w.place ≡ there o
-        → open_at (code_of words by) (w.place + 1) ≡ there o → Same w.path o
+    barrier_stays : (c : Bool) (o : List Open) → open_at (code_of words by) w.place ≡ Some o
+        → open_at (code_of words by) (w.place + 1) ≡ Some o → Same w.path o
         → OpenThere (open_at (code_of words by) (cond c w (onward w)).place) (cond c w (onward w)).path
     barrier_stays true o e a s = stands w.place w.path o e s
     barrier_stays false o e a s = stands_next w.place w.path o h a s
 
-    stays : (op : ControlOp) (all t : ℕ) (o : List Open) → open_at (code_of words by) w.place ≡ there o → Same w.path o
-        → Allowed (code_of words by) (control_item op) w.place o → Stays op w (control_rule op all t w)
+    stays : (op : ControlOp) (all t : ℕ) (o : List Open) → open_at (code_of words by) w.place ≡ Some o → Same w.path o
+        → Allowed (code_of words by) (Ok (control_item op)) w.place o → Stays op w (control_rule op all t w)
     unfolding control_rule Ready
     stays If all t o e s a =
         let r : length w.path < nesting = omega (arith, a.0, same_length w.path o s) in
         record {
           ready = r;
           blocks = rw (lt-ltb (length w.path) nesting r)
-              (stands_next w.place _ (opened_at before w.place ∷ o) h a.1 (refl, refl, s));
+              (stands_next w.place _ (opened_at Part.Before w.place ∷ o) h a.1 (refl, refl, s));
         }
     stays Else all t o e s a = let r = else_stays w.path o s a in record { ready = r.0; blocks = r.1 }
     stays Endif all t o e s a = let r = endif_stays w.path o s a in record { ready = r.0; blocks = r.1 }
@@ -188,7 +191,7 @@ module _ (words : List ℕ) (by : Reading) (checked : check_of (code_of words by
         record {
           ready = r;
           blocks = rw (lt-ltb (length w.path) nesting r)
-              (stands_next w.place _ (opened_at looping w.place ∷ o) h a.1 (refl, refl, s));
+              (stands_next w.place _ (opened_at Part.Loop w.place ∷ o) h a.1 (refl, refl, s));
         }
     stays Break all t o e s a =
         record {
@@ -208,31 +211,31 @@ module _ (words : List ℕ) (by : Reading) (checked : check_of (code_of words by
     stays Nop all t o e s a = record { ready = tt; blocks = stands_next w.place w.path o h a s }
 
     -- what checked code lets stand at the place of a wave that fits
-    stays_there : (op : ControlOp) (all t : ℕ) → item_at words by w.place ≡ control_item op
+    stays_there : (op : ControlOp) (all t : ℕ) → item_at words by w.place ≡ Ok (control_item op)
         → OpenThere (open_at (code_of words by) w.place) w.path → Stays op w (control_rule op all t w)
     stays_there op all t i f =
         let g = found_there (open_at (code_of words by) w.place) w.path f in
         let a = allowed (code_of words by) (code_fits words by) checked w.place g.blocks g.found h in
         stays op all t g.blocks g.found g.same
-        (subst (λ (x : Item). Allowed (code_of words by) x w.place g.blocks) i a)
+        (subst (λ (x : Result Item Refusal). Allowed (code_of words by) x w.place g.blocks) i a)
 
     -- ---- a control instruction by lanes t of the active ones
-    pub ready_there : (op : ControlOp) (n : ℕ) (ps : Preds) → item_at words by w.place ≡ control_item op → WaveFits words by n w ps
+    pub ready_there : (op : ControlOp) (n : ℕ) (ps : Preds) → item_at words by w.place ≡ Ok (control_item op) → WaveFits words by n w ps
         → Ready op w.path
     ready_there op n ps i f = (stays_there op 0 0 i f.blocks).ready
 
-    pub control_keeps : (op : ControlOp) (n all t : ℕ) (ps : Preds) → item_at words by w.place ≡ control_item op
+    pub control_keeps : (op : ControlOp) (n all t : ℕ) (ps : Preds) → item_at words by w.place ≡ Ok (control_item op)
         → ((i : ℕ) → bit t i ≤ bit w.active i) → WaveFits words by n w ps → WaveFits words by n (control_rule op all t w) ps
     control_keeps op n all t ps i v f =
         let r = stays_there op all t i f.blocks in
         record { blocks = r.blocks; sets = keeps op n all t w ps r.ready v f.sets }
 
     -- ---- an instruction of so many words that has no part in the blocks, with predicates of launched lanes
-    pub onward_keeps : (n size : ℕ) (ps qs : Preds) → item_at words by w.place ≡ Item.Plain size → w.place + size < 2 ^ 32
+    pub onward_keeps : (n size : ℕ) (ps qs : Preds) → item_at words by w.place ≡ Ok (Item.Plain size) → w.place + size < 2 ^ 32
         → PredsFit (first n) qs → WaveFits words by n w ps → WaveFits words by n (onward_by size w) qs
     onward_keeps n size ps qs i l q f =
         let g = found_there (open_at (code_of words by) w.place) w.path f.blocks in
         let a = allowed (code_of words by) (code_fits words by) checked w.place g.blocks g.found h in
-        let b = subst (λ (x : Item). Allowed (code_of words by) x w.place g.blocks) i a in
+        let b = subst (λ (x : Result Item Refusal). Allowed (code_of words by) x w.place g.blocks) i a in
         let z : on_by size w.place ≡ w.place + size = mod-eq_of_lt l in
         record { blocks = rw z (stands (w.place + size) w.path g.blocks b g.same); sets = keeps_onward n size w ps qs q f.sets }

@@ -5,7 +5,8 @@ use Rattle.lanes.specs.Sets.{bit, widest}
 use Rattle.blocks.specs.declared.item.Reading.{Reading}
 use Rattle.blocks.specs.Code.{code_of}
 use Rattle.blocks.specs.Open.{Open, part_number_of, opener_of}
-use Rattle.nesting.specs.OpenAt.{Found, nowhere, there, open_at}
+use Rattle.std.specs.Prelude.{Some, None}
+use Rattle.nesting.specs.OpenAt.{Found, open_at}
 use Rattle.lanes.specs.declared.said.Block.{Block}
 use Rattle.wave.specs.declared.state.Hot.{Hot}
 use Rattle.wave.specs.Wave.{Wave, Preds, wave_of, preds_of}
@@ -63,16 +64,16 @@ Same (b ∷ bs) (x ∷ o) = (b.part ≡ part_number_of x) × (b.opener ≡ opene
 
 -- the place is an instruction's first word or the end, and these blocks are open there
 abbrev pub OpenThere : Found → List Block → Type 0
-OpenThere nowhere p = ⊥
-OpenThere (there o) p = Same p o
+OpenThere None p = ⊥
+OpenThere (Some o) p = Same p o
 
 pub record WaveFits (code : List ℕ) (by : Reading) (n : ℕ) (w : Wave) (ps : Preds) : Type 0 where
   pub blocks : OpenThere (open_at (code_of code by) w.place) w.path
   pub sets : SetsFit n w ps
 
--- a state fits: no more lanes than the widest wave has, no more open blocks than there is room for, and the wave that it holds fits. The
--- numbers past the open blocks do not count
-pub record Fits (code : List ℕ) (by : Reading) (n : ℕ) (h : Hot) (xs : List ℕ) : Type 0 where
+-- a state fits: no more lanes than the widest wave has, no more open blocks than there is room for, and the wave that it holds fits. What
+-- stands past the open blocks does not count
+pub record Fits (code : List ℕ) (by : Reading) (n : ℕ) (h : Hot) (xs : List Block) : Type 0 where
   pub wide : n ≤ widest
   pub deep : h.depth ≤ nesting
   pub wave : WaveFits code by n (wave_of h xs) (preds_of h)

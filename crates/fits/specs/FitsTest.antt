@@ -1,19 +1,20 @@
 -- A test: theorems hold it to the page's words, as `Opens` has them.
 -- The test of whether a handed-in state fits. That of its sets is on whole sets: a walk outward over the open blocks, with the lanes that
 -- are active or set aside inside.
-use Rattle.std.specs.Prelude.{Bool, true, false, ◌&&◌, ◌||◌, List, [], ◌∷◌, ℕ, zero, suc, ◌+◌, ◌*◌, get_or, eqb, leb}
+use Rattle.std.specs.Prelude.{Bool, true, false, ◌&&◌, ◌||◌, List, [], ◌∷◌, ℕ, zero, suc, get_or, eqb, leb}
 use Rattle.std.specs.Int.Bits.{bit_and, bit_or}
 use Rattle.lanes.specs.Blocks.{nesting}
 use Rattle.lanes.specs.Sets.{first, widest}
 use Rattle.blocks.specs.declared.item.Reading.{Reading}
 use Rattle.blocks.specs.Code.{code_of}
-use Rattle.blocks.specs.Open.{Open, part_number_of, opener_of}
-use Rattle.nesting.specs.OpenAt.{Found, nowhere, there, open_at}
+use Rattle.blocks.specs.Open.{Open, part_number, part_number_of, opener_of}
+use Rattle.nesting.specs.declared.places.OpenBlock.{OpenBlock}
+use Rattle.std.specs.Prelude.{Some, None}
+use Rattle.nesting.specs.OpenAt.{Found, open_at, unused}
 use Rattle.lanes.specs.declared.said.Block.{Block}
 use Rattle.wave.specs.declared.state.Hot.{Hot}
-use Rattle.wave.specs.Layout.{block_numbers}
 use Rattle.wave.specs.Wave.{Wave, Preds, wave_of, preds_of}
-use Rattle.wave.specs.Layout.{is_loop}
+use Rattle.wave.specs.Layout.{is_loop, block_at}
 
 -- no lane is in both sets
 abbrev pub apart : ℕ → ℕ → Bool
@@ -57,20 +58,20 @@ agree (b ∷ bs) [] = false
 agree (b ∷ bs) (x ∷ o) = eqb b.part (part_number_of x) && eqb b.opener (opener_of x) && agree bs o
 
 abbrev pub place_test : Found → List Block → Bool
-place_test nowhere p = false
-place_test (there o) p = agree p o
+place_test None p = false
+place_test (Some o) p = agree p o
 
--- the same of the first d blocks of the arrays, outermost first: a block's six numbers in xs, its part and its opener in two more
-abbrev pub same_block : List ℕ → List ℕ → List ℕ → ℕ → Bool
-same_block xs parts openers d =
-    eqb (get_or xs (block_numbers * d) 0) (get_or parts d 0) && eqb (get_or xs (block_numbers * d + 1) 0) (get_or openers d 0)
+-- the same of the first d blocks, outermost first: the wave's in xs, the code's in bs
+abbrev pub same_block : List Block → List OpenBlock → ℕ → Bool
+same_block xs bs d =
+    eqb (block_at xs d).part (part_number (get_or bs d unused).part) && eqb (block_at xs d).opener (get_or bs d unused).opener
 
-abbrev pub same_blocks : List ℕ → List ℕ → List ℕ → ℕ → Bool
-same_blocks xs parts openers zero = true
-same_blocks xs parts openers (suc d) = same_block xs parts openers d && same_blocks xs parts openers d
+abbrev pub same_blocks : List Block → List OpenBlock → ℕ → Bool
+same_blocks xs bs zero = true
+same_blocks xs bs (suc d) = same_block xs bs d && same_blocks xs bs d
 
 -- ---- the whole test
-abbrev pub fits_test : List ℕ → Reading → ℕ → Hot → List ℕ → Bool
+abbrev pub fits_test : List ℕ → Reading → ℕ → Hot → List Block → Bool
 fits_test code by n h xs =
     leb n widest
     && leb h.depth nesting

@@ -22,10 +22,10 @@ pub record Opens (code : List ℕ) (by : Reading) (place : ℕ) (path : List Blo
   pub same : Same path blocks
 
 -- the wave of a state, with every block that the state's depth says
-abbrev pub whole_wave : Hot → List ℕ → Wave
+abbrev pub whole_wave : Hot → List Block → Wave
 whole_wave h xs = record { place = h.place; active = h.active; halted = h.halted; path = opened xs h.depth }
 
 -- a state fits, with the lanes 0 to n-1 launched
-pub record StateFits (code : List ℕ) (by : Reading) (n : ℕ) (h : Hot) (xs : List ℕ) : Type 0 where
+pub record StateFits (code : List ℕ) (by : Reading) (n : ℕ) (h : Hot) (xs : List Block) : Type 0 where
   pub opens : Opens code by h.place (opened xs h.depth)
   pub sets : SetsFit n (whole_wave h xs) (preds_of h)

@@ -6,57 +6,41 @@ ghost use Rattle.nesting.specs.OpenAt.{open_at};
 ghost use Rattle.wave.specs.Wave.{wave_of};
 ghost use Rattle.fits.specs.FitsTest.{place_test, same_block, same_blocks};
 
-use blocks::item::Reading;
+use blocks::item::Code;
+use lanes::said::{Block, DEEPEST};
 use nesting::places::{Stack, open_at};
-use wave::state::{BLOCK_NUMBERS, Hot, OPENER, PATH_NUMBERS, depth_of};
+use wave::state::{State, depth_of};
 
-// A number of the state as a place.
-fn place_of(number: u32) -> usize
-    ensures { result ≡ number }
-{
-    number as usize
-}
-
-// Whether block d of the array has the part and the opener that the stack has at d.
-fn same_block(d: u32, blocks: &[u32; PATH_NUMBERS], stack: Stack) -> bool
+// Whether block d of the array has the part and the opener of block d of the stack.
+fn same_block(d: u32, blocks: &[Block; DEEPEST], stack: &Stack) -> bool
     requires { d < nesting }
-    ensures { result ≡ same_block blocks.now stack.parts stack.openers d }
+    ensures { result ≡ same_block blocks.now stack.now.blocks d }
 {
     let i = d as usize;
-    let k = BLOCK_NUMBERS * i;
-    let part = stack.parts[i];
-    let opener = stack.openers[i];
-    (blocks[k] == part) & (place_of(blocks[k + OPENER]) == opener)
+    let open = stack.blocks[i];
+    (blocks[i].part == u32::from(open.part)) & (blocks[i].opener as usize == open.opener)
 }
 
 // Whether the first d blocks of the array have the parts and the openers of the stack.
-fn same_blocks(d: u32, blocks: &[u32; PATH_NUMBERS], stack: Stack) -> bool
+fn same_blocks(d: u32, blocks: &[Block; DEEPEST], stack: &Stack) -> bool
     requires { d ≤ nesting }
-    ensures { result ≡ same_blocks blocks.now stack.parts stack.openers d }
+    ensures { result ≡ same_blocks blocks.now stack.now.blocks d }
 {
     let mut ok = true;
-    let mut i = d;
-    while 0 < i {
-        i -= 1;
-        ok = ok & same_block(i, blocks, stack);
+    for i in 0..d {
+        ok &= same_block(i, blocks, stack);
     }
     ok
 }
 
 // Whether the place is an instruction's first word or the end, and the open blocks are those that the code has open there, in order, with
 // the right half of each IF.
-pub(crate) fn open_there(
-    code: &[u32],
-    reading: Reading,
-    h: Hot,
-    blocks: &[u32; PATH_NUMBERS],
-) -> bool
-    ensures { result ≡ place_test (open_at (code_of code.now reading) h.place) (wave_of h blocks.now).path }
+pub(crate) fn open_there(code: &Code, state: &State) -> bool
+    ensures { result ≡ place_test (open_at (code_of code.now.words.now code.now.reading) state.now.hot.place) (wave_of state.now.hot state.now.blocks).path }
 {
-    let at = open_at(code, reading, place_of(h.place));
-    let found = at.found;
-    let stack = at.stack;
-    let depth = stack.depth;
-    let d = depth_of(h.depth);
-    found & (depth == (d as usize)) & same_blocks(d, blocks, stack)
+    let d = depth_of(state.hot.depth);
+    match open_at(code, state.hot.place as usize) {
+        Some(stack) => (stack.depth == d as usize) & same_blocks(d, &state.blocks, &stack),
+        None => false,
+    }
 }

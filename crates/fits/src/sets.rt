@@ -1,15 +1,11 @@
 // Whether the sets of a handed-in state fit.
-ghost use Rattle.std.specs.Prelude.{◌≡◌, ◌<◌};
-ghost use Rattle.lanes.specs.Blocks.{nesting};
-ghost use Rattle.wave.specs.Layout.{block_at};
+ghost use Rattle.std.specs.Prelude.{◌≡◌};
 ghost use Rattle.wave.specs.Wave.{wave_of, preds_of};
 ghost use Rattle.fits.specs.FitsTest as test;
 
 use lanes::Lanes;
 use lanes::said::{Block, LOOP};
-use wave::state::{
-    AGAIN, ASIDE, BLOCK_NUMBERS, ENTERED, Hot, LEFT, OPENER, PATH_NUMBERS, depth_of,
-};
+use wave::state::{State, depth_of};
 
 // Whether no lane is in both sets.
 fn apart(a: Lanes, b: Lanes) -> bool
@@ -56,33 +52,17 @@ fn block_fits(all: Lanes, inner: Lanes, b: Block) -> bool
         & joins(b.left, lanes, b.entered)
 }
 
-// Block d of the array.
-fn block_at(d: u32, blocks: &[u32; PATH_NUMBERS]) -> Block
-    requires { d < nesting }
-    ensures { result ≡ block_at blocks.now d }
-{
-    let k = BLOCK_NUMBERS * (d as usize);
-    Block {
-        part: blocks[k],
-        opener: blocks[k + OPENER],
-        entered: blocks[k + ENTERED],
-        aside: blocks[k + ASIDE],
-        again: blocks[k + AGAIN],
-        left: blocks[k + LEFT],
-    }
-}
-
 // Whether the sets fit; `all` are the launched lanes.
-pub(crate) fn sets_fit(h: Hot, all: Lanes, blocks: &[u32; PATH_NUMBERS]) -> bool
-    ensures { result ≡ test.sets_test all (wave_of h blocks.now) (preds_of h) }
+pub(crate) fn sets_fit(state: &State, all: Lanes) -> bool
+    ensures { result ≡ test.sets_test all (wave_of state.now.hot state.now.blocks) (preds_of state.now.hot) }
 {
+    let h = state.hot;
     let mut ok = true;
     let mut inner = h.active;
-    let mut i = depth_of(h.depth);
-    while 0 < i {
-        i -= 1;
-        let b = block_at(i, blocks);
-        ok = ok & block_fits(all, inner, b);
+    let d = depth_of(h.depth);
+    for i in (0..d).rev() {
+        let b = state.blocks[i as usize];
+        ok &= block_fits(all, inner, b);
         inner = with_aside(inner, b);
     }
     let path = ok & joins(inner, h.halted, all);

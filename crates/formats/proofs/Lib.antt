@@ -4,4 +4,3 @@ pub mod Combined
 pub mod Each
 pub mod Sizes
 pub mod Words
-pub mod Putting

@@ -40,11 +40,11 @@ fn form(least: u8, rd: u8, rs1: u8, need: Need, second: Second) -> Limits
     ensures { result ≡ form least rd rs1 need second }
 {
     Limits {
-        least: least,
-        rd: rd,
-        rs1: rs1,
-        need: need,
-        second: second,
+        least,
+        rd,
+        rs1,
+        need,
+        second,
     }
 }
 
@@ -117,7 +117,7 @@ pub fn size_of(second: Second) -> usize
     match second {
         Second::Nothing => 1,
         Second::Number => 2,
-        Second::Registers(_, _, _) => 2,
+        Second::Registers(..) => 2,
     }
 }
 
@@ -156,18 +156,14 @@ fn second_fits(second: Second, i: Instr) -> bool
 pub fn fits(limits: Limits, i: Instr) -> bool
     ensures { result ≡ fits limits i }
 {
-    let need = limits.need;
-    let second = limits.second;
-    let guard = i.guard;
-    guard_fits(need, guard)
+    guard_fits(limits.need, i.guard)
         & ((limits.least <= i.rd)
-            & ((i.rd <= limits.rd) & ((i.rs1 <= limits.rs1) & second_fits(second, i))))
+            & ((i.rd <= limits.rd) & ((i.rs1 <= limits.rs1) & second_fits(limits.second, i))))
 }
 
 // Whether words give this instruction, with 256 registers.
 pub fn is_valid(instr: Instr) -> bool
     ensures { result ≡ valid instr }
 {
-    let op = instr.op;
-    fits(limits_of(op), instr)
+    fits(limits_of(instr.op), instr)
 }

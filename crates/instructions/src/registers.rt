@@ -17,12 +17,7 @@ pub struct Registers {
 fn fields(rd: bool, rs1: bool, rs2: bool, rs3: bool) -> Registers
     ensures { result ≡ registers rd rs1 rs2 rs3 }
 {
-    Registers {
-        rd: rd,
-        rs1: rs1,
-        rs2: rs2,
-        rs3: rs3,
-    }
+    Registers { rd, rs1, rs2, rs3 }
 }
 
 // Which fields of an operation are registers. RD of a comparison is a predicate, RS1 of MOV_SPECIAL a special number.
@@ -56,8 +51,7 @@ fn field_below(used: bool, field: u8, registers: u32) -> bool
 pub fn registers_below(instr: Instr, registers: u32) -> bool
     ensures { result ≡ registers_below registers instr }
 {
-    let op = instr.op;
-    let used = registers_of(op);
+    let used = registers_of(instr.op);
     field_below(used.rd, instr.rd, registers)
         & field_below(used.rs1, instr.rs1, registers)
         & field_below(used.rs2, instr.rs2, registers)

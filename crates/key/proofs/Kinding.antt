@@ -1,31 +1,25 @@
 -- The fault kinds: how many have lanes, and those that have, put kind after kind as the loops go.
 use mathlib.Core.Path.{◌≡◌, refl, sym, ap, ◌∙◌, subst}
-use Prim.Native.Nat.{ℕ, zero, suc, ◌+◌, ◌-◌, ◌*◌, ◌≤◌, ◌<◌}
+use Prim.Native.Nat.{ℕ, zero, suc, ◌+◌, ◌-◌, ◌≤◌, ◌<◌}
 use mathlib.Core.Bool.{Bool, true, false, cond}
-use mathlib.Core.List.{List, [], ◌∷◌, ◌++◌, append-nil, append_assoc, flat_map}
+use mathlib.Core.List.{List, [], ◌∷◌, ◌++◌, append-nil, append_assoc}
 use native.Mathlib.Numerals.{add-one}
 use native.Mathlib.Omega.{arith}
 use borrow.Author.Tests.{eq-eqb, ne_eqb}
 use lib.Dec.{eqb}
-use lib.ListN.{length, length-append}
+use lib.ListN.{length}
 use Rattle.ground.specs.Tests.{all_of}
 use Rattle.ground.proofs.Bools.{and_both}
 use Rattle.ground.proofs.Choices.{cond_by}
-use Rattle.numbers.specs.Numbers.{bytes_of, bound}
-use Rattle.numbers.specs.Placed.{placed}
+use Rattle.numbers.specs.Numbers.{bound}
 use Rattle.formats.specs.Format.{number, both, seen_as}
-use Rattle.formats.specs.Putting.{Put, PutAll}
-use Rattle.formats.proofs.Sizes.{times_long}
-use Rattle.formats.proofs.Putting.{four_fits, put_number, put_last, put_none, put_one, put_more}
 use Rattle.lanes.specs.declared.said.Fault.{Fault}
 use Rattle.body.specs.Body.{fault_format, set_bytes}
-use Rattle.body.specs.Layout.{fault_bytes}
-use Rattle.body.specs.Places.{kinds_place}
-use Rattle.body.proofs.Formats.{fault_takes}
 use Rattle.faulting.specs.declared.faults.Faults.{Faults}
 use Rattle.faulting.specs.Kinds.{fault, kinds, with_lanes, listed, lanes_of_kind}
 use Rattle.faulting.proofs.EveryKind.{up_from, table, every_table}
-use Rattle.key.specs.Putting.{kinds_after}
+use Rattle.key.specs.Putting.{Put, PutAll}
+use Rattle.key.proofs.Drafting.{four_fits, put_none, put_one, put_both, put_more}
 
 -- ---- the kinds from k on
 
@@ -86,55 +80,33 @@ kinds_with : (t : Bool) (x : Fault) (rest : List Fault) → cond t rest (x ∷ r
 kinds_with true x rest = refl
 kinds_with false x rest = refl
 
-length-one : (t : Bool) (x : Fault) → length (cond t [] (x ∷ [])) ≤ 1
-length-one true x = omega arith
-length-one false x = omega arith
-
--- the place behind fault kinds
-pub kinds_long : (fs : List Fault) → length (flat_map (fault_format set_bytes).write fs) ≡ fault_bytes set_bytes * length fs
-kinds_long = times_long (fault_takes set_bytes)
-
 -- a kind and its lanes, put as two numbers
-fault_put : {k l at : ℕ} {o now : List ℕ} → Put (both (number 4) (number set_bytes)) (k, l) o at now → Put (fault_format set_bytes) (fault k l) o at now
+fault_put : {k l : ℕ} {o now : List ℕ} → Put (both (number 4) (number set_bytes)) (k, l) o now → Put (fault_format set_bytes) (fault k l) o now
 unfolding fault_format seen_as
-fault_put p = record { room = p.room; stands = p.stands }
+fault_put p = record { fits = p.fits; stands = p.stands }
 
-module _ (k l at : ℕ) (o : List ℕ) where
-  pub no_kind : l ≡ 0 → PutAll (fault_format set_bytes) (one k l) o at o × (at ≡ at + fault_bytes set_bytes * length (one k l))
-  no_kind h = simp (eq-eqb l 0 h) (put_none, omega arith)
+module _ (k l : ℕ) {o : List ℕ} where
+  pub no_kind : l ≡ 0 → PutAll (fault_format set_bytes) (one k l) o o
+  no_kind h = simp (eq-eqb l 0 h) put_none
 
-  pub some_kind : {o₁ o₂ : List ℕ} → (l ≡ 0 → ⊥) → k < bound → l < bound → o₁ ≡ placed o at (bytes_of k) → o₂ ≡ placed o₁ (at + 4) (bytes_of l)
-      → PutAll (fault_format set_bytes) (one k l) o at o₂ × (at + 8 ≡ at + fault_bytes set_bytes * length (one k l))
-  some_kind {o₁} h hk hl a b = simp (ne_eqb l 0 h) (put_one (fault_put (put_number k at o a refl hk (put_last l (at + 4) o₁ b hl))), omega arith)
+  pub some_kind : {o₁ o₂ : List ℕ} → (l ≡ 0 → ⊥) → Put (number 4) k o o₁ → Put (number 4) l o₁ o₂ → PutAll (fault_format set_bytes) (one k l) o o₂
+  some_kind h a b = simp (ne_eqb l 0 h) (put_one (fault_put (put_both a b)))
 
--- ---- the kinds below k have been put, and the loop stands behind them
+-- ---- the kinds below k have been put
 
-pub record Kept (f : Faults) (o₀ o : List ℕ) (at k : ℕ) : Type 0 where
+pub record Kept (f : Faults) (o₀ o : List ℕ) (k : ℕ) : Type 0 where
   pub least : 1 ≤ k
   pub most : k ≤ suc kinds
   pub done : List Fault
-  pub few : length done ≤ k - 1
-  pub place : at ≡ kinds_after (length done)
-  pub put : PutAll (fault_format set_bytes) done o₀ kinds_place o
+  pub put : PutAll (fault_format set_bytes) done o₀ o
   pub whole : done ++ with_lanes (from k f) ≡ listed f
 
-pub kept_none : (f : Faults) (o : List ℕ) → Kept f o o kinds_place 1
-kept_none f o =
-    record {
-      least = omega arith;
-      most = omega arith;
-      done = [];
-      few = omega arith;
-      place = refl;
-      put = put_none;
-      whole = ap with_lanes (sym (every_table f));
-    }
+pub kept_none : (f : Faults) (o : List ℕ) → Kept f o o 1
+kept_none f o = record { least = omega arith; most = omega arith; done = []; put = put_none; whole = ap with_lanes (sym (every_table f)) }
 
-pub kept_next : (f : Faults) (o₀ o o₁ : List ℕ) (at at₁ k : ℕ) → Kept f o₀ o at k → k ≤ kinds → (l : ℕ) → l ≡ lanes_of_kind k f
-    → PutAll (fault_format set_bytes) (one k l) o at o₁ → at₁ ≡ at + fault_bytes set_bytes * length (one k l) → Kept f o₀ o₁ at₁ (k + 1)
-kept_next f o₀ o o₁ at at₁ k h b l e p q =
-    let here = length-append h.done (one k l) in
-    let last = length-one (eqb l 0) (fault k l) in
+pub kept_next : (f : Faults) (o₀ o o₁ : List ℕ) (k : ℕ) → Kept f o₀ o k → k ≤ kinds → (l : ℕ) → l ≡ lanes_of_kind k f
+    → PutAll (fault_format set_bytes) (one k l) o o₁ → Kept f o₀ o₁ (k + 1)
+kept_next f o₀ o o₁ k h b l e p =
     let next : with_lanes (from k f) ≡ one k l ++ with_lanes (from (suc k) f) =
     ap with_lanes (from_next f k b) ∙ kinds_with (eqb (lanes_of_kind k f) 0) _ _ ∙ rw (← e) refl in
     rw add-one
@@ -142,18 +114,15 @@ kept_next f o₀ o o₁ at at₁ k h b l e p q =
       least = omega arith;
       most = omega arith;
       done = h.done ++ one k l;
-      few = omega (arith, here, last, h.few, h.least);
-      place = omega (arith, here, h.place, q);
-      put = put_more h.put (omega (arith, h.place, kinds_long h.done)) p;
+      put = put_more h.put p;
       whole = append_assoc h.done (one k l) (with_lanes (from (suc k) f)) ∙ ap (λ (r : List Fault). h.done ++ r) (sym next) ∙ h.whole;
     })
 
-pub kept_all : (f : Faults) (o₀ o : List ℕ) (at k : ℕ) → Kept f o₀ o at k → kinds < k
-    → PutAll (fault_format set_bytes) (listed f) o₀ kinds_place o × (at ≡ kinds_after (length (listed f)))
-kept_all f o₀ o at k h b =
+pub kept_all : (f : Faults) (o₀ o : List ℕ) (k : ℕ) → Kept f o₀ o k → kinds < k → PutAll (fault_format set_bytes) (listed f) o₀ o
+kept_all f o₀ o k h b =
     let e : k ≡ suc kinds = omega (arith, h.most) in
     let d : h.done ≡ listed f = sym (append-nil h.done) ∙ ap (λ (j : ℕ). h.done ++ with_lanes (from j f)) (sym e) ∙ h.whole in
-    (subst (λ (fs : List Fault). PutAll (fault_format set_bytes) fs o₀ kinds_place o) d h.put, h.place ∙ ap (λ (fs : List Fault). kinds_after (length fs)) d)
+    subst (λ (fs : List Fault). PutAll (fault_format set_bytes) fs o₀ o) d h.put
 
 -- ---- room for them all
 

@@ -1,4 +1,5 @@
 -- What a key says: it is a body of the layout, and two keys are equal exactly if everything that the page names is.
+use Rattle.std.specs.Prelude.{Ok, Err}
 use mathlib.Core.Path.{◌≡◌, refl, sym, ap, ◌∙◌}
 use Prim.Native.Nat.{ℕ}
 use mathlib.Core.Bool.{true, false}
@@ -9,7 +10,8 @@ use borrow.Author.Tests.{leb-true}
 use lib.Dec.{leb}
 use lib.ListN.{length, take, drop}
 use lib.Seq.{take-append_seam}
-use Rattle.refusals.specs.Table.{Rule, broken}
+use Rattle.refusals.specs.declared.Rule.{Rule}
+use Rattle.refusals.specs.Table.{broken}
 use Rattle.refusals.specs.declared.Refusal.{Refusal}
 use Rattle.ground.proofs.Choices.{cond_by}
 use Rattle.ground.proofs.Tests.{true_or_false}
@@ -23,7 +25,6 @@ use Rattle.faulting.specs.declared.faults.Faults.{Faults}
 use Rattle.faulting.specs.Kinds.{listed}
 use Rattle.stepping.specs.declared.answers.Outcome.{Outcome}
 use Rattle.stepping.specs.declared.answers.Replayed.{Replayed}
-use Rattle.key.specs.declared.answer.KeyAnswer.TheVariants.{Wrote, Refused}
 use Rattle.key.specs.Key.{blocks_of, parts_of, Keying, keyed, body_key, outcome_key, key_of}
 
 -- ---- what was written
@@ -34,14 +35,14 @@ pub record Key (p : Parts) (n : ℕ) (out : List ℕ) : Type 0 where
   pub size : n ≡ length (bytes_of_body p)
   pub bytes : take n out ≡ bytes_of_body p
 
-wrote_inj : (m n : ℕ) (x y : List ℕ) → keyed (Wrote m) x ≡ keyed (Wrote n) y → (m ≡ n) × (x ≡ y)
-wrote_inj m n x y e = let a : Wrote m ≡ Wrote n = ap (λ (k : Keying). k.answer) e in (cc, ap (λ (k : Keying). k.out) e)
+wrote_inj : (m n : ℕ) (x y : List ℕ) → keyed (Ok m) x ≡ keyed (Ok n) y → (m ≡ n) × (x ≡ y)
+wrote_inj m n x y e = let a : Ok m ≡ Ok n = ap (λ (k : Keying). k.answer) e in (cc, ap (λ (k : Keying). k.out) e)
 
-not_written : (n : ℕ) (z : Refusal) (x y : List ℕ) → keyed (Wrote n) x ≡ keyed (Refused z) y → ⊥
+not_written : (n : ℕ) (z : Refusal) (x y : List ℕ) → keyed (Ok n) x ≡ keyed (Err z) y → ⊥
 not_written n z x y e =
-    let a : Wrote n ≡ Refused z = ap (λ (k : Keying). k.answer) e in let o : ◌≡◌ {A = ℕ} 0 1 = cc in omega arith
+    let a : Ok n ≡ Err z = ap (λ (k : Keying). k.answer) e in let o : ◌≡◌ {A = ℕ} 0 1 = cc in omega arith
 
-body_key_lem : (p : Parts) (n : ℕ) (now out : List ℕ) → keyed (Wrote n) now ≡ body_key p out → Key p n now
+body_key_lem : (p : Parts) (n : ℕ) (now out : List ℕ) → keyed (Ok n) now ≡ body_key p out → Key p n now
 unfolding body_key
 body_key_lem p n now out e =
     let b = bytes_of_body p in
@@ -52,9 +53,9 @@ body_key_lem p n now out e =
     let w = wrote_inj n (length b) now (placed out 0 b) (e ∙ simp (f, l)) in
     let s : now ≡ b ++ drop (length b) out = w.1 ∙ placed_front out b (leb-true _ _ l) in
     record { fits = f; size = w.0; bytes = rw (w.0, s) (take-append_seam b (drop (length b) out)) })
-    (λ (l : leb (length b) (length out) ≡ false). absurd (not_written n (broken Rule.short 0) now out (e ∙ simp (f, l))))
+    (λ (l : leb (length b) (length out) ≡ false). absurd (not_written n (broken Rule.Short 0) now out (e ∙ simp (f, l))))
     (true_or_false (leb (length b) (length out))))
-    (λ (f : fits_layout p ≡ false). absurd (not_written n (broken Rule.not_of_layout 0) now out (e ∙ simp f)))
+    (λ (f : fits_layout p ≡ false). absurd (not_written n (broken Rule.NotOfLayout 0) now out (e ∙ simp f)))
     (true_or_false (fits_layout p))
 
 -- what a run answered that has a key: a fault, and its body
@@ -64,35 +65,35 @@ pub record Keyed (kernel : ℕ) (r : Replayed) (n : ℕ) (out : List ℕ) : Type
   pub key : Key (parts_of kernel faults r.state) n out
 
 outcome_key_lem : (kernel n : ℕ) (r : Replayed) (now out : List ℕ) (o : Outcome) → r.outcome ≡ o
-    → keyed (Wrote n) now ≡ outcome_key kernel o r.state out → Keyed kernel r n now
+    → keyed (Ok n) now ≡ outcome_key kernel o r.state out → Keyed kernel r n now
 unfolding outcome_key
 outcome_key_lem kernel n r now out (Outcome.Fault f) h e = record { faults = f; outcome = h; key = body_key_lem (parts_of kernel f r.state) n now out e }
-outcome_key_lem kernel n r now out Outcome.Ended h e = absurd (not_written n (broken Rule.not_of_layout 0) now out e)
-outcome_key_lem kernel n r now out Outcome.OutOfBudget h e = absurd (not_written n (broken Rule.not_of_layout 0) now out e)
-outcome_key_lem kernel n r now out (Outcome.Refused q) h e = absurd (not_written n (broken Rule.not_of_layout 0) now out e)
+outcome_key_lem kernel n r now out Outcome.Ended h e = absurd (not_written n (broken Rule.NotOfLayout 0) now out e)
+outcome_key_lem kernel n r now out Outcome.OutOfBudget h e = absurd (not_written n (broken Rule.NotOfLayout 0) now out e)
+outcome_key_lem kernel n r now out (Outcome.Refused q) h e = absurd (not_written n (broken Rule.NotOfLayout 0) now out e)
 
 -- THEOREM: only a fault has a key, and what was written is its body
-pub key_written : (kernel n : ℕ) (r : Replayed) (now out : List ℕ) → keyed (Wrote n) now ≡ key_of kernel r out → Keyed kernel r n now
+pub key_written : (kernel n : ℕ) (r : Replayed) (now out : List ℕ) → keyed (Ok n) now ≡ key_of kernel r out → Keyed kernel r n now
 unfolding key_of
 key_written kernel n r now out e = outcome_key_lem kernel n r now out r.outcome refl e
 
 -- ---- what was not
 
-refused_wrote : (k : ℕ) (x : Refusal) → Wrote k ≡ Refused x → ⊥
+refused_wrote : (k : ℕ) (x : Refusal) → Ok k ≡ Err x → ⊥
 refused_wrote k x e = let z : ◌≡◌ {A = ℕ} 0 1 = cc in omega arith
 
 module _ (x : Refusal) (out : List ℕ) where
-  body_keeps : (p : Parts) → (body_key p out).answer ≡ Refused x → (body_key p out).out ≡ out
+  body_keeps : (p : Parts) → (body_key p out).answer ≡ Err x → (body_key p out).out ≡ out
   unfolding body_key
   body_keeps p =
-      cond_by (λ (k : Keying). k.answer ≡ Refused x → k.out ≡ out) (fits_layout p) _ _
+      cond_by (λ (k : Keying). k.answer ≡ Err x → k.out ≡ out) (fits_layout p) _ _
       (λ t.
-      cond_by (λ (k : Keying). k.answer ≡ Refused x → k.out ≡ out) (leb (length (bytes_of_body p)) (length out)) _ _
+      cond_by (λ (k : Keying). k.answer ≡ Err x → k.out ≡ out) (leb (length (bytes_of_body p)) (length out)) _ _
       (λ u e. absurd (refused_wrote (length (bytes_of_body p)) x e))
       (λ u e. refl))
       (λ t e. refl)
 
-  outcome_keeps : (kernel : ℕ) (o : Outcome) (s : State) → (outcome_key kernel o s out).answer ≡ Refused x → (outcome_key kernel o s out).out ≡ out
+  outcome_keeps : (kernel : ℕ) (o : Outcome) (s : State) → (outcome_key kernel o s out).answer ≡ Err x → (outcome_key kernel o s out).out ≡ out
   unfolding outcome_key
   outcome_keeps kernel (Outcome.Fault f) s e = body_keeps (parts_of kernel f s) e
   outcome_keeps kernel Outcome.Ended s e = refl
@@ -100,7 +101,7 @@ module _ (x : Refusal) (out : List ℕ) where
   outcome_keeps kernel (Outcome.Refused q) s e = refl
 
   -- THEOREM: a refusal leaves the output as lent
-  pub refused_keeps : (kernel : ℕ) (r : Replayed) → (key_of kernel r out).answer ≡ Refused x → (key_of kernel r out).out ≡ out
+  pub refused_keeps : (kernel : ℕ) (r : Replayed) → (key_of kernel r out).answer ≡ Err x → (key_of kernel r out).out ≡ out
   unfolding key_of
   refused_keeps kernel r e = outcome_keeps kernel r.outcome r.state e
 

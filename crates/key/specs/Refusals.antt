@@ -1,6 +1,7 @@
 -- When writing a key is refused: page 01's table of refusals, 14 and then 13, at place 0.
 use Rattle.std.specs.Prelude.{ℕ, ◌<◌, ◌≡◌, true, List, length}
-use Rattle.refusals.specs.Table.{Rule, broken}
+use Rattle.refusals.specs.declared.Rule.{Rule}
+use Rattle.refusals.specs.Table.{broken}
 use Rattle.refusals.specs.declared.Refusal.{Refusal}
 use Rattle.body.specs.Body.{bytes_of_body}
 use Rattle.body.specs.Layout.{fits_layout}
@@ -11,10 +12,10 @@ use Rattle.key.specs.Key.{parts_of}
 
 pub data KeyBreaks (kernel : ℕ) (r : Replayed) (out : List ℕ) : Refusal → Type 0 where
   -- the outcome is no fault
-  not_faulted : ((f : Faults) → r.outcome ≡ Outcome.Fault f → ⊥) → KeyBreaks kernel r out (broken Rule.not_of_layout 0)
+  not_faulted : ((f : Faults) → r.outcome ≡ Outcome.Fault f → ⊥) → KeyBreaks kernel r out (broken Rule.NotOfLayout 0)
   -- or gives no body of the layout
   no_body : (f : Faults) → r.outcome ≡ Outcome.Fault f → (fits_layout (parts_of kernel f r.state) ≡ true → ⊥)
-      → KeyBreaks kernel r out (broken Rule.not_of_layout 0)
+      → KeyBreaks kernel r out (broken Rule.NotOfLayout 0)
   -- or gives one, and the output is shorter
   no_room : (f : Faults) → r.outcome ≡ Outcome.Fault f → fits_layout (parts_of kernel f r.state) ≡ true
-      → length out < length (bytes_of_body (parts_of kernel f r.state)) → KeyBreaks kernel r out (broken Rule.short 0)
+      → length out < length (bytes_of_body (parts_of kernel f r.state)) → KeyBreaks kernel r out (broken Rule.Short 0)

@@ -34,3 +34,6 @@ only_once lane picked r q a b = a ∙ sym b
 
 pub lowest_once : (set r q : ℕ) → r ≡ lowest widest set → q ≡ lowest widest set → r ≡ q
 lowest_once set r q a b = a ∙ sym b
+
+pub width_once : (width r q : ℕ) → r ≡ min width widest → q ≡ min width widest → r ≡ q
+width_once width r q a b = a ∙ sym b

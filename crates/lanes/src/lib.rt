@@ -3,7 +3,7 @@
 
 pub mod said;
 
-ghost use Rattle.std.specs.Prelude.{◌≡◌, ◌&&◌, min, ltb};
+ghost use Rattle.std.specs.Prelude.{◌≡◌, ◌≤◌, ◌&&◌, min, ltb};
 ghost use Rattle.std.specs.Int.Bits.{bit_and, bit_or};
 ghost use Rattle.lanes.specs.Sets as sets;
 ghost use Rattle.lanes.specs.Sets.{widest};
@@ -23,20 +23,36 @@ pub type ByLane = [u32; EACH_LANE];
 pub fn narrowed(width: u32) -> u32
     ensures { result ≡ min width widest }
 {
-    if width < WIDEST { width } else { WIDEST }
+    width.min(WIDEST)
+}
+
+// A width that is no larger than the widest wave's.
+#[derive(Clone, Copy)]
+pub struct Width {
+    pub lanes: u32,
+    pub ghost narrow: { lanes ≤ widest },
+}
+
+impl Width {
+    // A width, or the widest wave's where it is larger.
+    pub fn of(width: u32) -> Width
+        ensures { result.lanes ≡ min width widest }
+    {
+        Width {
+            lanes: narrowed(width),
+        }
+    }
 }
 
 // `number` for each lane of a wave of this width, 0 for the others of the widest.
 pub fn each(number: u32, width: u32) -> ByLane
     ensures { result ≡ by_lane (min width widest) (λ i. number) }
 {
-    let end = narrowed(width);
+    let end = narrowed(width) as usize;
     let mut out = [0u32; EACH_LANE];
-    let mut i: u32 = 0;
-    while i < end {
-        let k = i as usize;
-        out[k] = number;
-        i += 1;
+    // The library has no `fill` of a slice.
+    for i in 0..end {
+        out[i] = number;
     }
     out
 }

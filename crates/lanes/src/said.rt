@@ -6,7 +6,7 @@ pub const NESTING: u32 = 32;
 
 pub const DEEPEST: usize = NESTING as usize;
 
-// A block's part.
+// A block's part. A number and no enum: a state that is handed in may hold any, and 11 refuses it.
 pub const BEFORE_ELSE: u32 = 1;
 
 pub const AFTER_ELSE: u32 = 2;
@@ -24,7 +24,7 @@ pub struct Block {
     pub left: Lanes,
 }
 
-// A fault kind and its lanes.
+// A fault kind, by the number that a key has for it, and its lanes.
 #[derive(Clone, Copy)]
 pub struct Fault {
     pub kind: u32,

@@ -2,7 +2,7 @@
 // on standard error.
 #![tactic(auto)]
 
-use files::{Input, PATH_ROOM, argument, fail, read_whole, write_whole};
+use files::{PATH_ROOM, argument, fail, read_whole, write_whole};
 use std::fs;
 use std::io::{Read, writer};
 use std::rt::Files;
@@ -19,7 +19,7 @@ fn list_of(rt: &(impl Print + Eprint), file: &[u8]) {
 // Lists what can be read. One byte more than the largest file is read, so that a longer one shows.
 fn list_from<R: Read>(rt: &(impl Print + Eprint), name: &str, input: &mut R) {
     let mut file = [0u8; listing::MOST_BYTES + 1];
-    if let Input::Read(n) = read_whole(rt, name.as_bytes(), input, &mut file) {
+    if let Some(n) = read_whole(rt, name.as_bytes(), input, &mut file) {
         list_of(rt, &file[..n]);
     }
 }

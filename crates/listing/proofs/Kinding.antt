@@ -7,8 +7,6 @@ use native.Mathlib.Omega.{arith}
 use native.Mathlib.Numerals.{add-one}
 use lib.ListN.{length, get_or, drop, length-append, length-map, drop_of_length-le, get_or-map}
 use lib.Seq.{drop-cons}
-use Rattle.numbers.specs.Placed.{Puts}
-use Rattle.numbers.proofs.Placing.{Putting, putting_start, putting_turn, putting_end}
 use Rattle.lanes.specs.declared.said.Fault.{Fault}
 use Rattle.body.specs.Body.{set_bytes, parts_at, no_fault}
 use Rattle.body.specs.Layout.{kind_lists, most_kinds, is_body}
@@ -17,7 +15,9 @@ use Rattle.listing.specs.Decimal.{field}
 use Rattle.listing.specs.Rooms.{field_bytes, kinds_bytes}
 use Rattle.listing.specs.Text.{space, comma, kinds_text}
 use Rattle.listing.proofs.Places.{field_long}
-use Rattle.listing.proofs.Putting.{puts_near, field_near}
+use Rattle.listing.specs.Writing.{Wrote}
+use Rattle.listing.specs.declared.writer.Writer.{Writer}
+use Rattle.listing.proofs.Putting.{Left, left_start, left_turn, left_end}
 
 -- the kinds of a body: some, and not too many
 abbrev pub kinds_of : List ℕ → List ℕ
@@ -49,41 +49,28 @@ kinds_long (k ∷ l ∷ ks) = omega (arith, field_long k comma, kinds_long (l �
 pub kinds_short : (b : List ℕ) → is_body b ≡ true → length (kinds_text (kinds_of b)) ≤ kinds_bytes
 kinds_short b e = omega (arith, (kinds_few b e).1, length-kinds b, kinds_long (kinds_of b))
 
-pub kinds_near : {o o1 : List ℕ} {at r : ℕ} (b : List ℕ) → is_body b ≡ true → Puts o at (kinds_text (kinds_of b)) r o1 → r ≤ at + kinds_bytes
-kinds_near b e = puts_near kinds_bytes (kinds_short b e)
-
 -- ---- turns of the loop, in which kind k of a body comes next
 
-pub record KindsLeft (o : List ℕ) (at : ℕ) (b out : List ℕ) (q k : ℕ) : Type 0 where
-  pub left : Putting o at (kinds_text (kinds_of b)) out q (kinds_text (drop k (kinds_of b)))
-  pub near : q ≤ at + field_bytes * k
+pub record KindsLeft (b : List ℕ) (o m : Writer) (k : ℕ) : Type 0 where
+  pub left : Left (kinds_text (kinds_of b)) (kinds_text (drop k (kinds_of b))) o m
   pub within : k < length (kinds_of b)
 
-pub kinding_start : {o b : List ℕ} {at : ℕ} → is_body b ≡ true → KindsLeft o at b o at 0
-kinding_start {b = b} e = record { left = putting_start; near = omega arith; within = omega (arith, (kinds_few b e).0, length-kinds b) }
-
--- there is room for its number
-pub kinding_room : {o b out : List ℕ} {at q k : ℕ} → KindsLeft o at b out q k → is_body b ≡ true → q + field_bytes ≤ at + kinds_bytes
-kinding_room {b = b} g e = omega (arith, g.near, g.within, (kinds_few b e).1, length-kinds b)
+pub kinding_start : {b : List ℕ} {o : Writer} → is_body b ≡ true → KindsLeft b o o 0
+kinding_start {b} e = record { left = left_start; within = omega (arith, (kinds_few b e).0, length-kinds b) }
 
 kind_is : (b : List ℕ) (k : ℕ) {f : Fault} → f ≡ get_or (parts_at b).faults k no_fault → f.kind ≡ get_or (kinds_of b) k 0
 kind_is b k e = ap (λ (x : Fault). x.kind) e ∙ sym (get_or-map (λ (x : Fault). x.kind) (parts_at b).faults k no_fault)
 
 -- c kinds were counted
-module _ {o b out : List ℕ} {at q k c : ℕ} (g : KindsLeft o at b out q k) (ec : c ≡ length (parts_at b).faults) {out₂ : List ℕ} {r : ℕ} {f : Fault} where
-  pub kinding_turn : k < c - 1 → f ≡ get_or (parts_at b).faults k no_fault → Puts out q (field f.kind comma) r out₂ → KindsLeft o at b out₂ r (k + 1)
+module _ {b : List ℕ} {o m n : Writer} {k c : ℕ} (g : KindsLeft b o m k) (ec : c ≡ length (parts_at b).faults) {f : Fault} where
+  pub kinding_turn : k < c - 1 → f ≡ get_or (parts_at b).faults k no_fault → Wrote (field f.kind comma) m n → KindsLeft b o n (k + 1)
   kinding_turn h e p =
       let more : k + 1 < length (kinds_of b) = omega (arith, length-kinds b) in
-      record {
-        left = putting_turn g.left (kinds_more (kinds_of b) k more ∙ rw (kind_is b k e) refl) p;
-        near = omega (arith, g.near, field_near f.kind comma p);
-        within = more;
-      }
+      record { left = left_turn g.left (kinds_more (kinds_of b) k more ∙ rw (kind_is b k e) refl) p; within = more }
 
-  pub kinding_end : c - 1 ≤ k → f ≡ get_or (parts_at b).faults (c - 1) no_fault → Puts out q (field f.kind space) r out₂
-      → Puts o at (kinds_text (kinds_of b)) r out₂
+  pub kinding_end : c - 1 ≤ k → f ≡ get_or (parts_at b).faults (c - 1) no_fault → Wrote (field f.kind space) m n → Wrote (kinds_text (kinds_of b)) o n
   kinding_end h e p =
       let last : k + 1 ≡ length (kinds_of b) = omega (arith, length-kinds b, g.within) in
       let z : c - 1 ≡ k = omega (arith, length-kinds b) in
       let text : kinds_text (drop k (kinds_of b)) ≡ field f.kind space = kinds_last (kinds_of b) k last ∙ rw (kind_is b k (rw z at e)) refl in
-      putting_end (putting_turn g.left (text ∙ sym (append-nil (field f.kind space))) p) refl
+      left_end (left_turn g.left (text ∙ sym (append-nil (field f.kind space))) p) refl

@@ -1,42 +1,41 @@
--- The lines of the listing, from what the code reads of a body, and the loops over the records: what is left, put where a loop stands, gives all.
+-- The lines of the listing, from what the code reads of a body, and the loops over the records: what is left, put behind, gives all.
 use mathlib.Core.Path.{◌≡◌, refl, ap, ◌∙◌}
-use Prim.Native.Nat.{ℕ, ◌+◌, ◌*◌, ◌-◌, ◌≤◌, ◌<◌}
+use Prim.Native.Nat.{ℕ, ◌+◌, ◌*◌, ◌≤◌, ◌<◌}
 use mathlib.Core.Bool.{true, false, cond}
-use mathlib.Core.List.{List, [], ◌∷◌, ◌++◌, append_assoc}
+use mathlib.Core.List.{List, [], ◌∷◌, ◌++◌}
 use native.Mathlib.Omega.{arith}
 use native.Mathlib.Numerals.{add-one}
 use lib.Dec.{eqb}
-use lib.ListN.{length, get_or, take, drop, length-append, drop_of_length-le}
+use lib.ListN.{length, get_or, drop, length-append, drop_of_length-le}
 use lib.Seq.{drop-cons}
 use borrow.Author.Tests.{eq-eqb, ne_eqb}
 use Rattle.ground.specs.Tests.{all_of}
-use Rattle.ground.proofs.Tests.{all_at}
-use Rattle.numbers.specs.Placed.{Puts}
-use Rattle.numbers.proofs.Placing.{puts_join, puts_same, Putting, putting_start, putting_turn, putting_end}
 use Rattle.body.specs.Body.{parts_at}
 use Rattle.body.specs.Layout.{is_body}
-use Rattle.dayfile.specs.Day.{most_records, page, count_of, place_of, length_of, bodies_of}
+use Rattle.dayfile.specs.Day.{most_records, page, count_of, bodies_of}
 use Rattle.dayfile.proofs.Layouts.{page_lawful}
 use Rattle.dayfile.proofs.Lists.{all_first, all_rest, count_bodies}
 use Rattle.records.specs.Read.{refusal_of, firsts_of}
 use Rattle.records.proofs.Accepted.{accepted_listed}
-use Rattle.records.proofs.Records.{record_here, length_firsts}
+use Rattle.records.proofs.Records.{length_firsts}
 use Rattle.listing.specs.Decimal.{field}
 use Rattle.listing.specs.Rooms.{line_bytes}
 use Rattle.listing.specs.Text.{space, newline, kinds_text, line, lines, distinct}
 use Rattle.listing.proofs.Places.{field_long}
-use Rattle.listing.proofs.Putting.{puts_near}
+use Rattle.listing.specs.Writing.{Wrote}
+use Rattle.listing.specs.declared.writer.Writer.{Writer}
+use Rattle.listing.proofs.Putting.{wrote_join, wrote_same, Left, left_turn, left_end}
 use Rattle.listing.proofs.Kinding.{kinds_of, kinds_short}
 
 -- ---- a line
 
-pub line_puts : {o o1 o2 o3 o4 : List ℕ} {at q1 q2 q3 r kernel place d : ℕ} (i first : ℕ) (b : List ℕ)
+pub line_wrote : {o p q r s t u : Writer} {kernel place d : ℕ} (i first : ℕ) (b : List ℕ)
     → kernel ≡ (parts_at b).kernel → place ≡ (parts_at b).place → d ≡ length (parts_at b).blocks
-    → Puts o at (field i space ++ field first space) q1 o1 → Puts o1 q1 (field kernel space ++ field place space) q2 o2
-    → Puts o2 q2 (kinds_text (kinds_of b)) q3 o3 → Puts o3 q3 (field d newline) r o4 → Puts o at (line i first (parts_at b)) r o4
+    → Wrote (field i space) o p → Wrote (field first space) p q → Wrote (field kernel space) q r → Wrote (field place space) r s
+    → Wrote (kinds_text (kinds_of b)) s t → Wrote (field d newline) t u → Wrote (line i first (parts_at b)) o u
 unfolding line
-line_puts i first b ek ep ed one two kinds last =
-    puts_same (simp append_assoc (rw (ek, ep, ed) refl)) (puts_join one (puts_join two (puts_join kinds last)))
+line_wrote i first b ek ep ed one two three four kinds last =
+    wrote_same (rw (ek, ep, ed) refl) (wrote_join one (wrote_join two (wrote_join three (wrote_join four (wrote_join kinds last)))))
 
 line_long : (i first : ℕ) (b : List ℕ) → is_body b ≡ true → length (line i first (parts_at b)) ≤ line_bytes
 unfolding line
@@ -56,65 +55,30 @@ lines_long i (f ∷ fs) (b ∷ bs) e =
     let L = line i f (parts_at b) in
     omega (arith, line_long i f b (all_first page b bs e), lines_long (i + 1) fs bs (all_rest page b bs e), length-append L (lines (i + 1) fs bs))
 
--- the line of record k + 1 comes next
-pub record Lining (o : List ℕ) (at : ℕ) (fs : List ℕ) (bs : List (List ℕ)) (out : List ℕ) (q k : ℕ) : Type 0 where
-  pub left : Putting o at (lines 1 fs bs) out q (lines (k + 1) (drop k fs) (drop k bs))
-  pub near : q ≤ at + line_bytes * k
-  pub within : k ≤ length fs
-
-pub lining_start : {o fs : List ℕ} {at : ℕ} {bs : List (List ℕ)} → Lining o at fs bs o at 0
-lining_start = record { left = putting_start; near = omega arith; within = omega arith }
-
 lines_more : (fs : List ℕ) (bs : List (List ℕ)) (k i : ℕ) → k < length fs → k < length bs
     → lines i (drop k fs) (drop k bs)
     ≡ line i (get_or fs k 0) (parts_at (get_or bs k [])) ++ lines (i + 1) (drop (k + 1) fs) (drop (k + 1) bs)
 unfolding lines
 lines_more fs bs k i h g = rw (drop-cons fs k 0 h, drop-cons bs k [] g, add-one k)
 
-module _ {o fs out : List ℕ} {bs : List (List ℕ)} {at q k : ℕ} (g : Lining o at fs bs out q k) where
-  pub lining_turn : {out2 b : List ℕ} {r : ℕ} → k < length fs → k < length bs → is_body b ≡ true → b ≡ get_or bs k []
-      → Puts out q (line (k + 1) (get_or fs k 0) (parts_at b)) r out2 → Lining o at fs bs out2 r (k + 1)
-  lining_turn {b = b} h hb e eb p =
-      record {
-        left = putting_turn g.left (lines_more fs bs k (k + 1) h hb ∙ rw eb refl) p;
-        near = omega (arith, g.near, puts_near line_bytes (line_long (k + 1) (get_or fs k 0) b e) p);
-        within = omega arith;
-      }
+-- turns of the loop that puts them, in which the line of record k + 1 comes next
+module _ (fs : List ℕ) (bs : List (List ℕ)) {o m : Writer} {k : ℕ} (g : Left (lines 1 fs bs) (lines (k + 1) (drop k fs) (drop k bs)) o m) where
+  pub lines_turn : {n : Writer} {b : List ℕ} → k < length fs → k < length bs → b ≡ get_or bs k []
+      → Wrote (line (k + 1) (get_or fs k 0) (parts_at b)) m n → Left (lines 1 fs bs) (lines (k + 1 + 1) (drop (k + 1) fs) (drop (k + 1) bs)) o n
+  lines_turn h hb e p = left_turn g (lines_more fs bs k (k + 1) h hb ∙ rw e refl) p
 
-  pub lining_end : length fs ≤ k → Puts o at (lines 1 fs bs) q out
+  pub lines_end : length fs ≤ k → Wrote (lines 1 fs bs) o m
   unfolding lines
-  lining_end h = putting_end g.left (ap (λ (l : List ℕ). lines (k + 1) l (drop k bs)) (drop_of_length-le fs {i = k} h))
+  lines_end h = left_end g (ap (λ (l : List ℕ). lines (k + 1) l (drop k bs)) (drop_of_length-le fs {i = k} h))
 
 -- ---- the records of an accepted file
 
--- the m bytes from a on, as the code cuts them out, are record k + 1
-pub record Cut (f : List ℕ) (k a m : ℕ) : Type 0 where
-  pub few : k < length (bodies_of page f)
-  pub inside : a + m ≤ length f
-  pub same : take (a + m - a) (drop a f) ≡ get_or (bodies_of page f) k []
-  pub whole : is_body (take (a + m - a) (drop a f)) ≡ true
-
 module _ (f fs : List ℕ) (ok : refusal_of page f ≡ 0) (e : fs ≡ firsts_of (bodies_of page f)) where
-  listed_count : length fs ≡ count_of f
+  pub listed_count : length fs ≡ count_of f
   listed_count = ap length e ∙ length_firsts (bodies_of page f) ∙ count_bodies page f
 
   pub listed_few : length fs ≤ most_records
   listed_few = omega (arith, listed_count, count_bodies page f, (accepted_listed page_lawful f ok).few)
-
-  pub listed_near : {o o1 : List ℕ} {at r : ℕ} → Puts o at (lines 1 fs (bodies_of page f)) r o1 → r ≤ at + line_bytes * length fs
-  listed_near = puts_near (line_bytes * length fs) (lines_long 1 fs (bodies_of page f) (accepted_listed page_lawful f ok).each)
-
-  pub listed_cut : {k a m : ℕ} → k < length fs → a ≡ place_of f k → m ≡ length_of f k → Cut f k a m
-  listed_cut {k} {a} {m} h ea em =
-      let r = record_here page_lawful f ok (omega (arith, listed_count)) ea em in
-      let z : a + m - a ≡ m = omega arith in
-      let s = ap (λ (j : ℕ). take j (drop a f)) z ∙ r.bytes in
-      record {
-        few = r.counted;
-        inside = r.inside;
-        same = s;
-        whole = ap is_body s ∙ all_at is_body (bodies_of page f) k [] (accepted_listed page_lawful f ok).each r.counted;
-      }
 
 -- ---- turns of the loop that counts
 

@@ -1,3 +1,4 @@
 pub mod Decimal
 pub mod Rooms
 pub mod Text
+pub mod Writing

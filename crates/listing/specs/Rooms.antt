@@ -1,5 +1,5 @@
 -- A step of the proofs: nothing that is said to the reader rests on this file.
--- The most bytes of a text: what its writer is given room for.
+-- The most bytes of each piece of a text.
 use Rattle.std.specs.Prelude.{ℕ, ◌+◌, ◌*◌}
 use Rattle.body.specs.Layout.{most_kinds}
 use Rattle.listing.specs.Decimal.{most_places}

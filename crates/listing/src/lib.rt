@@ -3,17 +3,18 @@
 // The file is tested once, and its records are then walked: the time is that of `records::firsts`.
 #![tactic(auto)]
 
-mod field;
 mod table;
+mod writer;
 
 ghost use Rattle.std.specs.Prelude.{◌++◌};
 ghost use Rattle.numbers.specs.Placed.{Puts};
 ghost use Rattle.listing.specs.Decimal.{field};
 ghost use Rattle.listing.specs.Text.{newline, refused_text, text_of};
+ghost use Rattle.listing.specs.Writing.{Wrote};
 
-use field::{put_field, put_text};
-use records::answer::CountAnswer;
+use records::accept;
 use table::put_table;
+use writer::Writer;
 
 // The largest file that is listed.
 pub const MOST_BYTES: usize = 65536;
@@ -22,11 +23,25 @@ pub const MOST_BYTES: usize = 65536;
 pub const TEXT_ROOM: usize = 176000;
 
 // Puts the line of a refused file.
-fn put_refusal(out: &mut [u8], number: u32) -> usize
-    ensures { Puts out.old 0 (refused_text ++ field number newline) result out.new }
+fn put_refusal(writer: &mut Writer, number: u32)
+    ensures { Wrote (refused_text ++ field number newline) writer.old writer.new }
 {
-    let q = put_text(out, 0, b"refused ");
-    put_field(out, q, number as u64, b'\n')
+    writer.put(b"refused ");
+    writer.put_field(number as u64, b'\n');
+}
+
+// Puts the text for a file.
+fn put_text(writer: &mut Writer, file: &[u8])
+    ensures { Wrote (text_of file.now) writer.old writer.new }
+{
+    if MOST_BYTES < file.len() {
+        writer.put(b"too long\n");
+        return;
+    }
+    match accept(file) {
+        Ok(day) => put_table(writer, &day),
+        Err(refusal) => put_refusal(writer, refusal.number),
+    }
 }
 
 // Puts the text for a file at the front of `out`, as far as it fits, and answers its length, at most 176,000: a line for each
@@ -34,12 +49,7 @@ fn put_refusal(out: &mut [u8], number: u32) -> usize
 pub fn list(file: &[u8], out: &mut [u8]) -> usize
     ensures { Puts out.old 0 (text_of file.now) result out.new }
 {
-    if MOST_BYTES < file.len() {
-        return put_text(out, 0, b"too long\n");
-    }
-    let mut firsts = [0u32; dayfile::MOST_RECORDS];
-    match records::firsts(file, &mut firsts) {
-        CountAnswer::Count(n) => put_table(out, file, &firsts[..n]),
-        CountAnswer::Refused(refusal) => put_refusal(out, refusal.number),
-    }
+    let mut writer = Writer { out, at: 0 };
+    put_text(&mut writer, file);
+    writer.at
 }

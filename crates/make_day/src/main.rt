@@ -3,12 +3,11 @@
 // error.
 #![tactic(auto)]
 
-ghost use Rattle.std.specs.Prelude.{◌≡◌, ◌+◌, length};
-ghost use Rattle.dayfile.specs.Day.{most_bytes, longest_file};
+ghost use Rattle.std.specs.Prelude.{◌≡◌, length};
 
-use dayfile::answer::MakeAnswer;
 use dayfile::{LONGEST_FILE, MOST_BYTES};
-use files::{Input, PATH_ROOM, argument, fail, read_whole, write_whole};
+use files::{PATH_ROOM, argument, fail, read_whole, write_whole};
+use refusals::Refusal;
 use std::fs;
 use std::io::{Read, writer};
 use std::rt::Files;
@@ -18,40 +17,36 @@ use std::rt::Files;
 const BODIES_ROOM: usize = MOST_BYTES + 1;
 
 // Says which rule the bodies break, and where.
-fn refuse(rt: &impl Eprint, number: u32, place: usize) {
+fn refuse(rt: &impl Eprint, refusal: Refusal) {
+    let Refusal { number, place } = refusal;
     let _ = eprintln!(rt; "refused {number} at {place}");
 }
 
-// Room for the bodies, and for the file. Each `ensures` gives only the length, which lending the array as a slice needs.
-fn bodies_room() -> [u8; BODIES_ROOM]
-    ensures { most_bytes + 1 ≡ length result }
+// Room for so many bytes. The `ensures` gives only the length, which lending the array as a slice needs: where the array itself stands, the check
+// counts through it, and runs out of stack. `agree` and `replay_capture` have the same: a crate for one function would be no plainer.
+fn bytes<const N: usize>() -> [u8; N]
+    ensures { N ≡ length result }
 {
-    [0; BODIES_ROOM]
-}
-
-fn file_room() -> [u8; LONGEST_FILE]
-    ensures { longest_file ≡ length result }
-{
-    [0; LONGEST_FILE]
+    [0; N]
 }
 
 // Makes the file of these bodies, and writes it.
 fn make_of(rt: &(impl Print + Eprint), bodies: &[u8]) {
-    let mut file = file_room();
+    let mut file = bytes::<LONGEST_FILE>();
     match dayfile::make(bodies, &mut file) {
-        MakeAnswer::Made(k) => {
+        Ok(k) => {
             if k <= LONGEST_FILE {
                 write_whole(rt, b"standard output", &mut writer(rt), &file[..k]);
             }
         }
-        MakeAnswer::Refused(refusal) => refuse(rt, refusal.number, refusal.place),
+        Err(refusal) => refuse(rt, refusal),
     }
 }
 
 // Makes the file of what can be read.
 fn make_from<R: Read>(rt: &(impl Print + Eprint), name: &str, input: &mut R) {
-    let mut bodies = bodies_room();
-    if let Input::Read(n) = read_whole(rt, name.as_bytes(), input, &mut bodies) {
+    let mut bodies = bytes::<BODIES_ROOM>();
+    if let Some(n) = read_whole(rt, name.as_bytes(), input, &mut bodies) {
         make_of(rt, &bodies[..n]);
     }
 }

@@ -14,7 +14,7 @@ use Rattle.ground.specs.Tests.{same_list, one_of, all_of}
 use Rattle.ground.proofs.Lists.{length-tabulate, tabulate_ext}
 use Rattle.lanes.specs.Sets.{bit, has, without, first, only, set_of}
 use Rattle.fetching.specs.Fetching.{fetch_at}
-use Rattle.blocks.specs.declared.structure.Checked.TheVariants.{Fine}
+use Rattle.std.specs.Prelude.{Ok}
 use Rattle.blocks.specs.Item.{item_at}
 use Rattle.blocks.specs.Code.{code_of}
 use Rattle.blocks.specs.Scan.{check_of}
@@ -104,7 +104,7 @@ other_outcome : ◌≡◌ {A = ℕ} 0 1 → ⊥
 other_outcome e = omega arith
 
 -- the table's launches pass the tests, with W 8 and R 2
-lawful : (n : ℕ) (words : List ℕ) → leb 1 n ≡ true → leb n 8 ≡ true → leb (length words) most_words ≡ true → check_of (code_of words (record { registers = 2 })) ≡ Fine
+lawful : (n : ℕ) (words : List ℕ) → leb 1 n ≡ true → leb n 8 ≡ true → leb (length words) most_words ≡ true → check_of (code_of words (record { registers = 2 })) ≡ Ok tt
     → (b : ℕ) → Launchable (settings 8 n 2 b) words
 lawful n words some few short checked b =
     record {

@@ -1,11 +1,13 @@
 -- The marked table, T1 to T14: one list of cases, and what the pages say of each.
-use Rattle.std.specs.Prelude.{◌≡◌, Bool, true, false, List, [], ◌∷◌, ℕ, suc, ◌*◌, ◌≤◌, length, get_or, take}
+use Rattle.refusals.specs.declared.Refusal.{Refusal}
+use Rattle.words.specs.declared.reading.Fetched.{Fetched}
+use Rattle.std.specs.Prelude.{◌≡◌, Bool, true, false, List, [], ◌∷◌, ℕ, suc, ◌*◌, ◌≤◌, length, get_or, take, Result, Ok, Err}
 use Rattle.instructions.specs.declared.instr.TwoOp.{TwoOp}
 use Rattle.instructions.specs.declared.instr.ControlOp.{ControlOp}
 use Rattle.instructions.specs.declared.instr.Op.{Op}
-use Rattle.refusals.specs.Table.{Rule, broken}
-use Rattle.words.specs.declared.reading.ReadAnswer.{ReadAnswer}
-use Rattle.words.specs.Layout.{instr}
+use Rattle.refusals.specs.declared.Rule.{Rule}
+use Rattle.refusals.specs.Table.{broken}
+use Rattle.words.specs.Layout.{instr, counted}
 use Rattle.words.specs.Reading.{read_at}
 use Rattle.arith.specs.Arith.{two_of}
 use Rattle.ground.specs.Lists.{tabulate}
@@ -16,8 +18,6 @@ use Rattle.stepping.specs.Answer.{Answered}
 use Rattle.replay.specs.Replay.{most_steps, launch_of}
 use Rattle.numbers.specs.Numbers.{bytes_of_all}
 use Rattle.body.specs.Layout.{longest}
-use Rattle.key.specs.declared.answer.KeyAnswer.{KeyAnswer}
-use Rattle.key.specs.declared.answer.KeyAnswer.TheVariants.{Wrote, Refused}
 use Rattle.key.specs.Key.{Keying, key_of}
 
 -- words to be read; an operation on two numbers; a launch of so many lanes of a width, with so many registers
@@ -28,7 +28,7 @@ pub data Case : Type 0 where
 
 -- of a run that ends: its steps, register 1 of the launched lanes, the halted lanes; of one that faults: its steps, and kernel 7's key
 pub data Answer : Type 0 where
-  read : ReadAnswer → Answer
+  read : Result Fetched Refusal → Answer
   value : ℕ → Answer
   ended : ℕ → List ℕ → ℕ → Answer
   faulted : ℕ → List ℕ → Answer
@@ -58,9 +58,9 @@ abbrev pub settings : ℕ → ℕ → ℕ → ℕ → Settings
 settings width lanes registers budget = record { width = width; registers = registers; lanes = lanes; budget = budget }
 
 -- the key that was written: so many bytes of the room
-abbrev pub bytes_in : KeyAnswer → List ℕ → List ℕ
-bytes_in (Wrote n) out = take n out
-bytes_in (Refused x) out = []
+abbrev pub bytes_in : Result ℕ Refusal → List ℕ → List ℕ
+bytes_in (Ok n) out = take n out
+bytes_in (Err x) out = []
 
 abbrev pub written : Keying → List ℕ
 written k = bytes_in k.answer k.out
@@ -98,10 +98,10 @@ pub data Each : List Entry → Type 0 where
 
 abbrev one : Op → ℕ → Bool → ℕ → ℕ → ℕ → ℕ → ℕ → Answer
 one op pred negate rd rs1 rs2 number words =
-    read (ReadAnswer.Read (instr op (record { pred = pred; negate = negate }) rd rs1 rs2 0 0 number) words)
+    read (Ok (counted (instr op (record { pred = pred; negate = negate }) rd rs1 rs2 0 0 number) words))
 
 abbrev refusal : Rule → Answer
-refusal rule = read (ReadAnswer.Refused (broken rule 0))
+refusal rule = read (Err (broken rule 0))
 
 -- the words of a load from T11's address, and those of T12, T13 and T14
 abbrev pub t11 : List ℕ
@@ -125,9 +125,9 @@ table =
     entry (reading (0x00030100 ∷ 0x02000000 ∷ [])) (one (Op.Two TwoOp.Add) 0 false 3 1 2 0 2)
     ∷ entry (reading (0xF1000000 ∷ 0x00000005 ∷ [])) (one Op.Number 0 false 0 0 0 5 2)
     ∷ entry (reading (0x3F000005 ∷ [])) (one (Op.Control ControlOp.If) 1 true 0 0 0 0 1)
-    ∷ entry (reading (0x3F000004 ∷ [])) (refusal Rule.field)
+    ∷ entry (reading (0x3F000004 ∷ [])) (refusal Rule.Field)
     ∷ entry (reading (0x3F000041 ∷ [])) (one (Op.Control ControlOp.Break) 1 false 0 0 0 0 1)
-    ∷ entry (reading (0x3F000070 ∷ [])) (refusal Rule.not_carried)
+    ∷ entry (reading (0x3F000070 ∷ [])) (refusal Rule.NotCarried)
     -- T7 to T11; T10 and T11 by page 02, which makes MULHI signed and a sum that reaches 2^32 a fault
     ∷ entry (operation TwoOp.Div 0xFFFFFFF9 2) (value 0xFFFFFFFD)
     ∷ entry (operation TwoOp.Rem 0xFFFFFFF9 2) (value 0xFFFFFFFF)

@@ -1,6 +1,6 @@
-pub mod Packing
-pub mod Leading
-pub mod Pieced
+pub mod Adding
+pub mod Digits
+pub mod Parts
 pub mod Whole
 pub mod Answers
 pub mod OneAnswer

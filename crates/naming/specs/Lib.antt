@@ -1,2 +1,3 @@
-pub mod Pieces
+pub mod Line
+pub mod Parts
 pub mod Writing

@@ -1,53 +1,35 @@
 // What follows the operands: the scope and the predicate, each only if it isn't 0.
-ghost use Rattle.std.specs.Prelude.{◌≡◌, cond, ◌+◌, ◌≤◌};
+ghost use Rattle.std.specs.Prelude.{◌≡◌, cond};
 ghost use Rattle.texts.specs.Bytes.{ascii};
-ghost use Rattle.numbers.specs.Placed.{Puts};
-ghost use Rattle.naming.specs.Pieces.{packed, joined, pieces_room};
-ghost use Rattle.texts.specs.Text.{scope_text, on_text, tail_text};
+ghost use Rattle.texts.specs.Text.{scope_text, on_text};
+ghost use Rattle.naming.specs.Line.{Adds};
 
-use crate::numerals::decimal;
-use crate::pieces::put_pieces;
+use crate::line::Line;
 use instructions::instr::Guard;
 
-// ` scope `, and ` p`.
-const SCOPE: u64 = 0x2065706F637320;
-
-const PREDICATE: u64 = 0x7020;
-
-// The scope.
-fn scope_of(scope: u8) -> [u64; 2]
-    ensures { joined result ≡ scope_text scope }
+// Puts the scope.
+pub(crate) fn put_scope(line: &mut Line, scope: u8)
+    ensures { Adds line.old (scope_text scope) line.new }
 {
-    if scope == 0 {
-        return [0, 0];
+    if scope != 0 {
+        line.put(" scope ");
+        line.put_number(scope as u32);
     }
-    [SCOPE, decimal(scope as u32)]
 }
 
-// ` on` or ` on not`.
-fn on_mark(negate: bool) -> u64
-    ensures { result ≡ cond negate (packed (ascii " on not")) (packed (ascii " on")) }
+// What stands before the predicate.
+fn on_mark(negate: bool) -> &'static str
+    ensures { result.now ≡ cond negate (ascii " on not p") (ascii " on p") }
 {
-    if negate { 0x746F6E206E6F20 } else { 0x6E6F20 }
+    if negate { " on not p" } else { " on p" }
 }
 
-// The predicate.
-fn on_of(guard: Guard) -> [u64; 3]
-    ensures { joined result ≡ on_text guard.pred guard.negate }
+// Puts the predicate.
+pub(crate) fn put_guard(line: &mut Line, guard: Guard)
+    ensures { Adds line.old (on_text guard.pred guard.negate) line.new }
 {
-    if guard.pred == 0 {
-        return [0, 0, 0];
+    if guard.pred != 0 {
+        line.put(on_mark(guard.negate));
+        line.put_number(guard.pred as u32);
     }
-    [on_mark(guard.negate), PREDICATE, decimal(guard.pred as u32)]
-}
-
-// Puts the scope and the predicate.
-pub(crate) fn put_ending(out: &mut [u8], at: usize, scope: u8, guard: Guard) -> usize
-    requires { at + 40 ≤ pieces_room }
-    ensures { Puts out.old at (tail_text scope guard) result out.new }
-{
-    let scoped = scope_of(scope);
-    let on = on_of(guard);
-    let q = put_pieces(out, at, &scoped);
-    put_pieces(out, q, &on)
 }

@@ -1,75 +1,61 @@
-// The text of an instruction, one line such as `ADD r3, r1, r2 on p2`.
+// The text of an instruction, one line such as `ADD r3, r1, r2 on p2`. It is put into a lent buffer, and is no `Display`: the type is another
+// crate's, and a formatter's promise doesn't say when it writes all, which 13 "exactly if" rests on.
 #![tactic(auto)]
 
 mod ending;
+mod line;
 mod names;
 mod numerals;
 mod operands;
-mod pieces;
 
-ghost use Rattle.std.specs.Prelude.{◌≡◌};
-ghost use Rattle.numbers.specs.Placed.{Puts};
+ghost use Rattle.std.specs.Prelude.{◌≡◌, []};
 ghost use Rattle.texts.specs.Text.{text_of};
+ghost use Rattle.naming.specs.Line.{Adds};
 ghost use Rattle.naming.specs.Writing.{written, put_in, text_in};
 
-use ending::put_ending;
+use ending::{put_guard, put_scope};
 use instructions::forms::is_valid;
 use instructions::instr::Instr;
-use names::name_of;
+use line::Line;
+use names::put_name;
 use numbers::put_bytes;
-use operands::{fields_of, operands_of};
-use pieces::put_pieces;
-use refusals::{NO_WORDS, Refusal, SHORT};
-
-// How many bytes were written; or a refusal.
-#[derive(Clone, Copy)]
-pub enum TextAnswer {
-    Wrote { bytes: usize },
-    Refused(Refusal),
-}
+use operands::put_operands;
+use refusals::{Refusal, Rule, broken};
 
 // A buffer of this length holds every text.
 pub const TEXT_ROOM: usize = 48;
 
-// Puts the text of an instruction at the start of `line`, as far as it fits, and answers its length.
-fn put_line(instr: Instr, line: &mut [u8]) -> usize
-    ensures { Puts line.old 0 (text_of instr) result line.new }
+// The text of an instruction, as far as it fits a line.
+fn line_of(instr: Instr) -> Line
+    ensures { Adds [] (text_of instr) result }
 {
-    let op = instr.op;
-    let guard = instr.guard;
-    let name = name_of(op);
-    let operands = operands_of(op, fields_of(instr));
-    let q1 = put_pieces(line, 0, &name);
-    let q2 = put_pieces(line, q1, &operands);
-    put_ending(line, q2, instr.scope, guard)
+    let mut line = Line::new();
+    put_name(&mut line, instr.op);
+    put_operands(&mut line, instr);
+    put_scope(&mut line, instr.scope);
+    put_guard(&mut line, instr.guard);
+    line
 }
 
-// Puts a text at the start of `out`, if it has room.
-fn put_whole(text: &[u8], out: &mut [u8]) -> TextAnswer
+// Puts a text at the start of `out`, if it has room, and answers its length.
+fn put_whole(text: &[u8], out: &mut [u8]) -> Result<usize, Refusal>
     ensures { written result out.new ≡ put_in text.now out.old }
 {
     let n = text.len();
     if out.len() < n {
-        return TextAnswer::Refused(Refusal {
-            number: SHORT,
-            place: 0,
-        });
+        return Err(broken(Rule::Short, 0));
     }
     put_bytes(out, 0, text);
-    TextAnswer::Wrote { bytes: n }
+    Ok(n)
 }
 
-// The text of an instruction, at the start of `out`. What stands after it stays; a refusal changes nothing.
-pub fn write_text(instr: Instr, out: &mut [u8]) -> TextAnswer
+// Puts the text of an instruction at the start of `out`, and answers its length. What stands after it stays; a refusal changes nothing.
+pub fn write_text(instr: Instr, out: &mut [u8]) -> Result<usize, Refusal>
     ensures { written result out.new ≡ text_in instr out.old }
 {
     if !is_valid(instr) {
-        return TextAnswer::Refused(Refusal {
-            number: NO_WORDS,
-            place: 0,
-        });
+        return Err(broken(Rule::NoWords, 0));
     }
-    let mut line = [0u8; TEXT_ROOM];
-    let n = put_line(instr, &mut line);
-    put_whole(&line[..n], out)
+    let line = line_of(instr);
+    put_whole(line.as_bytes(), out)
 }

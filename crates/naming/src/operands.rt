@@ -1,149 +1,97 @@
-// The operands of an instruction, in eight pieces.
+// The operands of an instruction, and the marks between them.
 ghost use Rattle.std.specs.Prelude.{◌≡◌, [], get_or};
-ghost use Rattle.naming.specs.Pieces.{packed, Shown, arranged};
-ghost use Rattle.texts.specs.Text.{specials};
+ghost use Rattle.texts.specs.Text.{specials, operands};
+ghost use Rattle.texts.specs.Templates.{template};
+ghost use Rattle.naming.specs.Line.{Adds};
+ghost use Rattle.naming.specs.Parts.{part_text, parts_text};
 
-use crate::numerals::{decimal, numeral_of};
+use crate::line::Line;
 use instructions::instr::{Instr, Op};
 
-// An instruction's fields as pieces: its registers, RS1 as a special number, and the number, whose `0x` stands in front.
+// A mark as it stands, or an operand: a register, a predicate, a special number or any number.
 #[derive(Clone, Copy)]
-pub struct Fields {
-    pub rd: u64,
-    pub rs1: u64,
-    pub rs2: u64,
-    pub rs3: u64,
-    pub special: u64,
-    pub front: u64,
-    pub number: u64,
+pub(crate) enum Part {
+    Mark(&'static str),
+    Register(u8),
+    Predicate(u8),
+    Special(u8),
+    Number(u32),
 }
 
-// The marks before and between operands: ` r`, `, r`, ` p`, `, `, `, [r`, ` [r`, `], r`, `]`, ` + `.
-const REGISTER: u64 = 0x7220;
+// The marks that stand before, between and behind operands.
+const SPACE: Part = Part::Mark(" ");
 
-const NEXT_REGISTER: u64 = 0x72202C;
+const COMMA: Part = Part::Mark(", ");
 
-const PREDICATE: u64 = 0x7020;
+const OPEN: Part = Part::Mark(", [");
 
-const COMMA: u64 = 0x202C;
+const PLUS: Part = Part::Mark(" + ");
 
-const NEXT_ADDRESS: u64 = 0x725B202C;
-
-const ADDRESS: u64 = 0x725B20;
-
-const PAST_ADDRESS: u64 = 0x72202C5D;
-
-const CLOSE: u64 = 0x5D;
-
-const PLUS: u64 = 0x202B20;
+const CLOSE: Part = Part::Mark("], ");
 
 // The name of a special number.
-fn special_name(n: u8) -> u64
-    ensures { result ≡ packed (get_or specials n []) }
+fn special_name(n: u8) -> &'static str
+    ensures { result.now ≡ get_or specials n [] }
 {
     match n {
-        0 => 0x656E616C,
-        1 => 0x65766177,
-        2 => 0x7365766177,
-        _ => 0,
+        0 => "lane",
+        1 => "wave",
+        2 => "waves",
+        _ => "",
     }
 }
 
-// The fields of an instruction.
-pub(crate) fn fields_of(i: Instr) -> Fields
-    ensures { Shown result i }
+// Puts a part.
+fn put_part(line: &mut Line, part: Part)
+    ensures { Adds line.old (part_text part) line.new }
 {
-    let n = numeral_of(i.number);
-    Fields {
-        rd: decimal(i.rd as u32),
-        rs1: decimal(i.rs1 as u32),
-        rs2: decimal(i.rs2 as u32),
-        rs3: decimal(i.rs3 as u32),
-        special: special_name(i.rs1),
-        front: n[0],
-        number: n[1],
+    match part {
+        Part::Mark(mark) => line.put(mark),
+        Part::Register(n) => {
+            line.put("r");
+            line.put_number(n as u32);
+        }
+        Part::Predicate(n) => {
+            line.put("p");
+            line.put_number(n as u32);
+        }
+        Part::Special(n) => line.put(special_name(n)),
+        Part::Number(n) => line.put_number(n),
     }
 }
 
-// The operands, by the form of an operation.
-pub(crate) fn operands_of(op: Op, f: Fields) -> [u64; 8]
-    ensures { result ≡ arranged op f }
+// Puts parts one behind another.
+fn put_parts(line: &mut Line, parts: &[Part])
+    ensures { Adds line.old (parts_text parts.now) line.new }
 {
-    match op {
-        Op::Two(_) => [
-            REGISTER,
-            f.rd,
-            NEXT_REGISTER,
-            f.rs1,
-            NEXT_REGISTER,
-            f.rs2,
-            0,
-            0,
-        ],
-        Op::Compare(_) => [
-            PREDICATE,
-            f.rd,
-            NEXT_REGISTER,
-            f.rs1,
-            NEXT_REGISTER,
-            f.rs2,
-            0,
-            0,
-        ],
-        Op::One(_) => [REGISTER, f.rd, NEXT_REGISTER, f.rs1, 0, 0, 0, 0],
-        Op::Special => [REGISTER, f.rd, COMMA, f.special, 0, 0, 0, 0],
-        Op::Number => [REGISTER, f.rd, COMMA, f.front, f.number, 0, 0, 0],
-        Op::Load(_) => [
-            REGISTER,
-            f.rd,
-            NEXT_ADDRESS,
-            f.rs1,
-            PLUS,
-            f.front,
-            f.number,
-            CLOSE,
-        ],
-        Op::Store(_) => [
-            ADDRESS,
-            f.rs1,
-            PLUS,
-            f.front,
-            f.number,
-            PAST_ADDRESS,
-            f.rd,
-            0,
-        ],
-        Op::Atomic(_) => [
-            REGISTER,
-            f.rd,
-            NEXT_ADDRESS,
-            f.rs1,
-            PAST_ADDRESS,
-            f.rs2,
-            0,
-            0,
-        ],
-        Op::Cas => [
-            REGISTER,
-            f.rd,
-            NEXT_ADDRESS,
-            f.rs1,
-            PAST_ADDRESS,
-            f.rs2,
-            NEXT_REGISTER,
-            f.rs3,
-        ],
-        Op::Wave(_) => [REGISTER, f.rd, NEXT_REGISTER, f.rs1, 0, 0, 0, 0],
-        Op::Shuffle => [
-            REGISTER,
-            f.rd,
-            NEXT_REGISTER,
-            f.rs1,
-            NEXT_REGISTER,
-            f.rs2,
-            0,
-            0,
-        ],
-        Op::Control(_) => [0, 0, 0, 0, 0, 0, 0, 0],
+    for part in parts {
+        put_part(line, *part);
+    }
+}
+
+// Puts the operands, by the form of the operation.
+#[tactic(auto, unfolding(texts::specs::Text::operands))]
+pub(crate) fn put_operands(line: &mut Line, i: Instr)
+    ensures { Adds line.old (operands (template i.op) i []) line.new }
+{
+    let rd = Part::Register(i.rd);
+    let rs1 = Part::Register(i.rs1);
+    let rs2 = Part::Register(i.rs2);
+    let rs3 = Part::Register(i.rs3);
+    let number = Part::Number(i.number);
+    match i.op {
+        Op::Two(_) | Op::Shuffle => put_parts(line, &[SPACE, rd, COMMA, rs1, COMMA, rs2]),
+        Op::Compare(_) => put_parts(
+            line,
+            &[SPACE, Part::Predicate(i.rd), COMMA, rs1, COMMA, rs2],
+        ),
+        Op::One(_) | Op::Wave(_) => put_parts(line, &[SPACE, rd, COMMA, rs1]),
+        Op::Special => put_parts(line, &[SPACE, rd, COMMA, Part::Special(i.rs1)]),
+        Op::Number => put_parts(line, &[SPACE, rd, COMMA, number]),
+        Op::Load(_) => put_parts(line, &[SPACE, rd, OPEN, rs1, PLUS, number, Part::Mark("]")]),
+        Op::Store(_) => put_parts(line, &[Part::Mark(" ["), rs1, PLUS, number, CLOSE, rd]),
+        Op::Atomic(_) => put_parts(line, &[SPACE, rd, OPEN, rs1, CLOSE, rs2]),
+        Op::Cas => put_parts(line, &[SPACE, rd, OPEN, rs1, CLOSE, rs2, COMMA, rs3]),
+        Op::Control(_) => {}
     }
 }

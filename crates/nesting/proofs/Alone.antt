@@ -9,11 +9,10 @@ use mathlib.Core.Logic.{◌↔◌, ⊎_elim}
 use lib.ListN.{length}
 use Rattle.ground.proofs.Bools.{never}
 use Rattle.ground.proofs.Tests.{true_or_false}
+use Rattle.std.specs.Prelude.{Ok, Err}
 use Rattle.refusals.specs.declared.Refusal.{Refusal}
-use Rattle.refusals.specs.Table.{Rule, broken}
-use Rattle.instructions.specs.declared.instr.ControlOp.{ControlOp}
-use Rattle.fetching.specs.declared.ControlIn.{ControlIn}
-use Rattle.fetching.specs.Fetching.{control_in}
+use Rattle.refusals.specs.declared.Rule.{Rule}
+use Rattle.refusals.specs.Table.{broken}
 use Rattle.words.specs.Layout.{words_of}
 use Rattle.instructions.specs.Registers.{registers_below}
 use Rattle.words.proofs.Standing.{stood, standing, read_span}
@@ -22,75 +21,52 @@ use Rattle.words.proofs.Theorems.{refuses}
 use Rattle.instructions.proofs.PastRegisters.{past_if}
 use Rattle.blocks.specs.declared.item.Item.{Item}
 use Rattle.blocks.specs.declared.item.Reading.{Reading}
-use Rattle.blocks.specs.Item.{item_by, item_of, item_at}
+use Rattle.blocks.specs.Item.{item_of, item_at}
 use Rattle.nesting.specs.Nesting.{Has, Alone, in_words, register_past}
+use Rattle.blocks.proofs.Refusing.{fine_not_refused, same_fine}
 use Rattle.blocks.proofs.Items.{seen_whole, seen_past, seen_refused}
 
--- what is seen is no refusal
-abbrev pub Carried : Item → Type 0
-Carried (Item.Plain w) = Unit {0}
-Carried Item.If = Unit {0}
-Carried Item.Else = Unit {0}
-Carried Item.Endif = Unit {0}
-Carried Item.Loop = Unit {0}
-Carried Item.Jump = Unit {0}
-Carried Item.Endloop = Unit {0}
-Carried (Item.Bad r) = ⊥
-
-item_carried : (c : ControlIn) (width : ℕ) → Carried (item_by c width)
-item_carried ControlIn.Other w = tt
-item_carried (ControlIn.Control ControlOp.If) w = tt
-item_carried (ControlIn.Control ControlOp.Else) w = tt
-item_carried (ControlIn.Control ControlOp.Endif) w = tt
-item_carried (ControlIn.Control ControlOp.Loop) w = tt
-item_carried (ControlIn.Control ControlOp.Break) w = tt
-item_carried (ControlIn.Control ControlOp.Continue) w = tt
-item_carried (ControlIn.Control ControlOp.Endloop) w = tt
-item_carried (ControlIn.Control ControlOp.Halt) w = tt
-item_carried (ControlIn.Control ControlOp.Barrier) w = tt
-item_carried (ControlIn.Control ControlOp.Nop) w = tt
-
 module _ (words : List ℕ) (by : Reading) (at : ℕ) (here : at < length words) where
-  alone : (r : Refusal) → Verdict words at → item_at words by at ≡ Item.Bad r → Alone words by at r
+  alone : (r : Refusal) → Verdict words at → item_at words by at ≡ Err r → Alone words by at r
   alone r (Verdict.broken q b e) f = let z : q ≡ r = cc (seen_refused words by at e) in subst (Alone words by at) z (in_words b)
   alone r (Verdict.read x k e) f =
       ⊎_elim
-      (λ (t : registers_below by.registers x ≡ true). absurd (subst Carried (sym (seen_whole words by at e t) ∙ f) (item_carried (control_in x.op) k)))
+      (λ (t : registers_below by.registers x ≡ true). fine_not_refused (sym (seen_whole words by at e t) ∙ f))
       (λ (t : registers_below by.registers x ≡ false).
-      let z : broken Rule.register at ≡ r = cc (seen_past words by at e t) in
+      let z : broken Rule.Register at ≡ r = cc (seen_past words by at e t) in
       subst (Alone words by at) z (register_past x (stood words at x k e).0 ((past_if by.registers x).0 t)))
       (true_or_false (registers_below by.registers x))
 
-  bad : (r : Refusal) → Alone words by at r → item_at words by at ≡ Item.Bad r
+  bad : (r : Refusal) → Alone words by at r → item_at words by at ≡ Err r
   bad r (in_words b) = seen_refused words by at ((refuses words at r).1 b)
   bad r (register_past x s p) = seen_past words by at (standing words at x s) ((past_if by.registers x).1 p)
 
   -- THE WORDS BREAK A RULE by themselves exactly if the blocks see its refusal
-  pub bad_if : (r : Refusal) → (item_at words by at ≡ Item.Bad r) ↔ Alone words by at r
+  pub bad_if : (r : Refusal) → (item_at words by at ≡ Err r) ↔ Alone words by at r
   bad_if r = (alone r (verdict words at), bad r)
 
-  shown : (i : Item) → Carried i → Verdict words at → item_at words by at ≡ i → Has words by at i
-  shown i c (Verdict.broken r b e) f = absurd (subst Carried (sym f ∙ seen_refused words by at e) c)
-  shown i c (Verdict.read x k e) f =
+  shown : (i : Item) → Verdict words at → item_at words by at ≡ Ok i → Has words by at i
+  shown i (Verdict.broken r b e) f = fine_not_refused (sym f ∙ seen_refused words by at e)
+  shown i (Verdict.read x k e) f =
       ⊎_elim
       (λ (t : registers_below by.registers x ≡ true).
       let s = stood words at x k e in
-      (x, s.0, λ p. never (sym ((past_if by.registers x).1 p) ∙ t), ap (item_of x.op) (sym s.1) ∙ sym (seen_whole words by at e t) ∙ f))
-      (λ (t : registers_below by.registers x ≡ false). absurd (subst Carried (sym f ∙ seen_past words by at e t) c))
+      (x, s.0, λ p. never (sym ((past_if by.registers x).1 p) ∙ t), ap (item_of x.op) (sym s.1) ∙ same_fine (sym (seen_whole words by at e t) ∙ f)))
+      (λ (t : registers_below by.registers x ≡ false). fine_not_refused (sym f ∙ seen_past words by at e t))
       (true_or_false (registers_below by.registers x))
 
   -- what the blocks see, where it is no refusal, is an instruction of the code
-  pub has : (i : Item) → Carried i → item_at words by at ≡ i → Has words by at i
-  has i c = shown i c (verdict words at)
+  pub has : (i : Item) → item_at words by at ≡ Ok i → Has words by at i
+  has i = shown i (verdict words at)
 
 -- AN INSTRUCTION OF THE CODE is in it, and is seen as what it is to the blocks
-pub has_seen : (words : List ℕ) (by : Reading) (at : ℕ) (i : Item) → Has words by at i → (at < length words) × (item_at words by at ≡ i)
+pub has_seen : (words : List ℕ) (by : Reading) (at : ℕ) (i : Item) → Has words by at i → (at < length words) × (item_at words by at ≡ Ok i)
 has_seen words by at i h =
     let read = standing words at h.0 h.1 in
     let z = read_span words at h.0 (length (words_of h.0)) read in (
       omega arith,
       ⊎_elim
-          (λ (t : registers_below by.registers h.0 ≡ true). seen_whole words by at read t ∙ h.3)
+          (λ (t : registers_below by.registers h.0 ≡ true). seen_whole words by at read t ∙ ap Ok h.3)
           (λ (t : registers_below by.registers h.0 ≡ false). absurd (h.2 ((past_if by.registers h.0).0 t)))
           (true_or_false (registers_below by.registers h.0)),
     )

@@ -1,237 +1,145 @@
 // The blocks that are open at a place of the code.
-ghost use Rattle.std.specs.Prelude.{◌≡◌, List, [], ◌∷◌, ◌≤◌, ◌<◌};
+ghost use Rattle.std.specs.Prelude.{◌≡◌, List, [], ◌∷◌, ◌≤◌, ◌<◌, Some};
 ghost use Rattle.lanes.specs.Blocks.{nesting};
 ghost use Rattle.blocks.specs.Code.{code_of};
 ghost use Rattle.blocks.specs.Open.{Open, opened_at, innermost};
 ghost use Rattle.blocks.specs.Scan.{step};
-ghost use Rattle.nesting.specs.OpenAt.{nowhere, open_at, shown};
+ghost use Rattle.nesting.specs.OpenAt.{open_at, shown};
 ghost use Rattle.blocks.specs.Levels.{around};
-ghost use Rattle.nesting.specs.Stacks.{Holds, Turned, Advances, part_of, inside_number, inside_from};
+ghost use Rattle.nesting.specs.Stacks.{Holds, Turned, Advances};
 
-use blocks::item::Reading;
-use blocks::rules::{Inside, Turn};
-use blocks::{item, rules};
-use lanes::said::{AFTER_ELSE, BEFORE_ELSE, DEEPEST, LOOP};
+use blocks::item::Code;
+use blocks::rules::{Part, Turn, judge};
+use lanes::said::DEEPEST;
 
-// The open blocks, outermost first: the part (1 before ELSE, 2 after, 3 loop) and the opener's place of each, 0 past the depth; and how many are loops.
+// An open block: its part, and its opener's place.
+#[derive(Clone, Copy)]
+pub struct OpenBlock {
+    pub part: Part,
+    pub opener: usize,
+}
+
+// What stands past the open blocks.
+const UNUSED: OpenBlock = OpenBlock {
+    part: Part::Before,
+    opener: 0,
+};
+
+// The open blocks, outermost first, as many as the depth says; and how many are loops. An array with its count, since nothing here allocates.
+// The depth's bound stands in the clauses and is no ghost field: `stack_of` of the specs is the stack of any number of blocks.
 #[derive(Clone, Copy)]
 pub struct Stack {
     pub depth: usize,
     pub loops: usize,
-    pub parts: [u32; DEEPEST],
-    pub openers: [usize; DEEPEST],
+    pub blocks: [OpenBlock; DEEPEST],
 }
 
-// Whether the place is an instruction's first word or the end, and the blocks that are open there (none where it is neither).
-#[derive(Clone, Copy)]
-pub struct OpenAt {
-    pub found: bool,
-    pub stack: Stack,
-}
-
-// The number of a part. Outside every block it is never used.
-fn number(inside: Inside) -> u32
-    ensures { result ≡ inside_number inside }
-{
-    match inside {
-        Inside::Nothing => BEFORE_ELSE,
-        Inside::Before => BEFORE_ELSE,
-        Inside::After => AFTER_ELSE,
-        Inside::Loop => LOOP,
-    }
-}
-
-// The part of a number; 0 is that of no block.
-fn inside_from(number: u32) -> Inside
-    ensures { result ≡ inside_from number }
-{
-    match number {
-        BEFORE_ELSE => Inside::Before,
-        AFTER_ELSE => Inside::After,
-        LOOP => Inside::Loop,
-        _ => Inside::Nothing,
-    }
-}
-
-// No open block.
-fn empty() -> Stack
-    ensures { Holds result [] }
-{
-    Stack {
-        depth: 0,
-        loops: 0,
-        parts: [0u32; DEEPEST],
-        openers: [0usize; DEEPEST],
-    }
-}
-
-// What the innermost open block is.
-fn inner(s: Stack) -> Inside
-    ensures { (o : List Open) → Holds s o → result ≡ innermost o }
-{
-    let depth = s.depth;
-    if depth == 0 {
-        return Inside::Nothing;
-    }
-    let d = depth - 1;
-    if d < DEEPEST {
-        let n = s.parts[d];
-        return inside_from(n);
-    }
-    Inside::Nothing
-}
-
-// One block more, opened at a place.
-fn pushed(s: Stack, inside: Inside, at: usize) -> Stack
-    requires { (s.depth < nesting) × (s.loops < nesting) }
-    ensures { (o : List Open) → Holds s o → Holds result (opened_at (part_of inside) at ∷ o) }
-{
-    let d = s.depth;
-    let n = number(inside);
-    let mut r = s;
-    r.parts[d] = n;
-    r.openers[d] = at;
-    r.depth = d + 1;
-    if n == LOOP {
-        let l = s.loops;
-        r.loops = l + 1;
-    }
-    r
-}
-
-// The innermost block closed.
-fn popped(s: Stack) -> Stack
-    requires { s.depth ≤ nesting }
-    ensures { (o : List Open) → Holds s o → Holds result (around o) }
-{
-    let depth = s.depth;
-    if depth == 0 {
-        return s;
-    }
-    let d = depth - 1;
-    let n = s.parts[d];
-    let mut r = s;
-    r.parts[d] = 0;
-    r.openers[d] = 0;
-    r.depth = d;
-    let l = s.loops;
-    if n == LOOP {
-        if 0 < l {
-            r.loops = l - 1;
+impl Stack {
+    // No open block.
+    fn empty() -> Stack
+        ensures { Holds result [] }
+    {
+        Stack {
+            depth: 0,
+            loops: 0,
+            blocks: [UNUSED; DEEPEST],
         }
     }
-    r
-}
 
-// The innermost block in another part.
-fn turned_to(s: Stack, inside: Inside) -> Stack
-    requires { s.depth ≤ nesting }
-    ensures { (o n : List Open) → Holds s o → Turned inside o n → Holds result n }
-{
-    let depth = s.depth;
-    if depth == 0 {
-        return s;
-    }
-    let d = depth - 1;
-    let n = number(inside);
-    let mut r = s;
-    r.parts[d] = n;
-    r
-}
-
-// The place and the open blocks after one instruction; `on` is false where the pass is over.
-#[derive(Clone, Copy)]
-pub struct Moved {
-    pub on: bool,
-    pub at: usize,
-    pub stack: Stack,
-}
-
-// One instruction of the pass.
-fn advance(code: &[u32], reading: Reading, at: usize, s: Stack) -> Moved
-    requires { (o : List Open) × Holds s o }
-    ensures { (o : List Open) → Holds s o → Advances (step (code_of code.now reading) at o) result }
-{
-    if code.len() <= at {
-        return Moved {
-            on: false,
-            at,
-            stack: s,
-        };
-    }
-    let item = item::look(code, reading, at);
-    let part = inner(s);
-    let loops = s.loops;
-    let depth = s.depth;
-    let room = DEEPEST - depth;
-    let turn = rules::judge(item, at, room, part, 0 < loops);
-    match turn {
-        Turn::Go(width, next) => {
-            let after = turned_to(s, next);
-            Moved {
-                on: true,
-                at: at + width,
-                stack: after,
-            }
-        }
-        Turn::Close => {
-            let after = popped(s);
-            Moved {
-                on: true,
-                at: at + 1,
-                stack: after,
-            }
-        }
-        Turn::Enter(opened, _) => {
-            let after = pushed(s, opened, at);
-            Moved {
-                on: true,
-                at: at + 1,
-                stack: after,
-            }
-        }
-        Turn::Stop(_) => Moved {
-            on: false,
-            at,
-            stack: s,
-        },
-    }
-}
-
-// The answer for a place that the pass does not come by.
-fn not_found() -> OpenAt
-    ensures { result ≡ shown nowhere }
-{
-    let s = empty();
-    OpenAt {
-        found: false,
-        stack: s,
-    }
-}
-
-// The blocks open at a place, in time linear in the code. An instruction's second word is no place, nor is one behind a refusal.
-pub fn open_at(code: &[u32], reading: Reading, place: usize) -> OpenAt
-    ensures { result ≡ shown (open_at (code_of code.now reading) place) }
-{
-    let mut s = empty();
-    let mut at: usize = 0;
-    while at < place {
-        let moved = advance(code, reading, at, s);
-        let on = moved.on;
-        if on {
-            let after = moved.stack;
-            s = after;
-            at = moved.at;
+    // The part of the innermost open block.
+    fn inner(&self) -> Option<Part>
+        requires { self.now.depth ≤ nesting }
+        ensures { (o : List Open) → Holds self.now o → result ≡ innermost o }
+    {
+        if self.depth == 0 {
+            None
         } else {
-            return not_found();
+            Some(self.blocks[self.depth - 1].part)
         }
     }
-    if at == place {
-        OpenAt {
-            found: true,
-            stack: s,
+
+    // One block more, opened at a place.
+    fn push(&mut self, part: Part, at: usize)
+        requires { (self.old.depth < nesting) × (self.old.loops < nesting) }
+        ensures { (o : List Open) → Holds self.old o → Holds self.new (opened_at part at ∷ o) }
+    {
+        self.blocks[self.depth] = OpenBlock { part, opener: at };
+        self.depth += 1;
+        match part {
+            Part::Loop => self.loops += 1,
+            Part::Before | Part::After => {}
         }
-    } else {
-        not_found()
     }
+
+    // The innermost block closed.
+    fn pop(&mut self)
+        requires { self.old.depth ≤ nesting }
+        ensures { (o : List Open) → Holds self.old o → Holds self.new (around o) }
+    {
+        if self.depth == 0 {
+            return;
+        }
+        self.depth -= 1;
+        let part = self.blocks[self.depth].part;
+        self.blocks[self.depth] = UNUSED;
+        match part {
+            Part::Loop => self.loops = self.loops.saturating_sub(1),
+            Part::Before | Part::After => {}
+        }
+    }
+
+    // The innermost block in this part.
+    fn turn_to(&mut self, inside: Option<Part>)
+        requires { self.old.depth ≤ nesting }
+        ensures { (o n : List Open) → Holds self.old o → Turned inside o n → Holds self.new n }
+    {
+        if let Some(part) = inside {
+            if 0 < self.depth {
+                self.blocks[self.depth - 1].part = part;
+            }
+        }
+    }
+}
+
+// One instruction of the pass: the place after it, with the blocks that are open there. None where the pass is over.
+fn advance(code: &Code, at: usize, stack: &mut Stack) -> Option<usize>
+    requires { (o : List Open) × Holds stack.old o }
+    ensures { (o : List Open) → Holds stack.old o → Advances (step (code_of code.now.words.now code.now.reading) at o) result stack.new }
+{
+    if code.words.len() <= at {
+        return None;
+    }
+    let Ok(item) = code.look(at) else {
+        return None;
+    };
+    let room = DEEPEST - stack.depth;
+    match judge(Ok(item), at, room, stack.inner(), 0 < stack.loops) {
+        Err(_) => None,
+        Ok(Turn::Go(width, inside)) => {
+            stack.turn_to(inside);
+            Some(at + width)
+        }
+        Ok(Turn::Close) => {
+            stack.pop();
+            Some(at + 1)
+        }
+        Ok(Turn::Enter(part, _)) => {
+            stack.push(part, at);
+            Some(at + 1)
+        }
+    }
+}
+
+// The blocks open at a place, in time linear in the code; none where the place is neither an instruction's first word nor the end. An
+// instruction's second word is no place, nor is one behind a refusal.
+pub fn open_at(code: &Code, place: usize) -> Option<Stack>
+    ensures { result ≡ shown (open_at (code_of code.now.words.now code.now.reading) place) }
+{
+    let mut stack = Stack::empty();
+    let mut at: usize = 0;
+    // An instruction has one word or two: the places are no range for a `for`.
+    while at < place {
+        at = advance(code, at, &mut stack)?;
+    }
+    if at == place { Some(stack) } else { None }
 }

@@ -1,5 +1,6 @@
 -- The parts of the table. The opcodes of a part begin with one digit, so an opcode is found in its own part or nowhere; and a part with no
 -- modifiers is searched by opcode alone.
+use Rattle.std.specs.Prelude.{Some, None}
 use mathlib.Core.Path.{◌≡◌, refl, ap, ◌∙◌}
 use mathlib.Core.Bool.{Bool, true, cond, ◌&&◌, and-true, and-false}
 use mathlib.Core.List.{List, [], ◌∷◌, ◌++◌}
@@ -9,7 +10,6 @@ use lib.Dec.{eqb}
 use borrow.Author.Tests.{eq-eqb, ne_eqb, eqb-true}
 use Rattle.ground.proofs.Bools.{and_left, and_right}
 use Rattle.instructions.specs.declared.instr.Op.{Op}
-use Rattle.opcodes.specs.declared.table.FoundOp.{FoundOp}
 use Rattle.opcodes.specs.Table.{opcode_of, sums, bitwise, moves, accesses, in_registers, reaching, controls, find, has, op_of}
 use Rattle.opcodes.specs.Named.{numbered}
 
@@ -19,9 +19,9 @@ begin d [] = true
 begin d (o ∷ os) = eqb (opcode_of o / 16) d && begin d os
 
 -- where nothing is found in what follows, only the first list counts
-find_before : (test : Op → Bool) (os ps : List Op) → find test ps ≡ FoundOp.Missing → find test (os ++ ps) ≡ find test os
+find_before : (test : Op → Bool) (os ps : List Op) → find test ps ≡ None → find test (os ++ ps) ≡ find test os
 find_before test [] ps e = e
-find_before test (o ∷ os) ps e = ap (cond (test o) (FoundOp.Carried o)) (find_before test os ps e)
+find_before test (o ∷ os) ps e = ap (cond (test o) (Some o)) (find_before test os ps e)
 
 module _ (c m : ℕ) where
   -- an opcode that begins with another digit is looked for in what follows
@@ -47,7 +47,7 @@ module _ (c m : ℕ) where
   of_control e = rw e refl
 
   -- ---- those of registers
-  pub none_modified : (m ≡ 0 → ⊥) → find (has c m) in_registers ≡ FoundOp.Missing
+  pub none_modified : (m ≡ 0 → ⊥) → find (has c m) in_registers ≡ None
   none_modified n = simp (ne_eqb m 0 n, and-false)
 
   module _ (plain : m ≡ 0) where
@@ -72,5 +72,5 @@ module _ (c m : ℕ) where
     pub among_accesses : m ≡ 0 → find (has c m) reaching ≡ numbered opcode_of accesses c
     among_accesses e = simp (ne_eqb c 0x3C atomic, ne_eqb c 0x3E wave, eq-eqb m 0 e, and-true)
 
-    pub not_listed : (m ≡ 0 → ⊥) → find (has c m) reaching ≡ FoundOp.Missing
+    pub not_listed : (m ≡ 0 → ⊥) → find (has c m) reaching ≡ None
     not_listed n = simp (ne_eqb c 0x3C atomic, ne_eqb c 0x3E wave, ne_eqb m 0 n, and-false)

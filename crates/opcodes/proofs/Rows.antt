@@ -1,4 +1,5 @@
 -- The table, row by row: each operation is found by its own opcode and modifier, and these fit their fields.
+use Rattle.std.specs.Prelude.{Some}
 use mathlib.Core.Path.{◌≡◌, refl}
 use Prim.Native.Nat.{◌<◌}
 use lib.Dec.{T, ltb, ltb→lt}
@@ -10,15 +11,14 @@ use Rattle.instructions.specs.declared.instr.WaveOp.{WaveOp}
 use Rattle.instructions.specs.declared.instr.ControlOp.{ControlOp}
 use Rattle.instructions.specs.declared.instr.Space.{Space}
 use Rattle.instructions.specs.declared.instr.Op.{Op}
-use Rattle.opcodes.specs.declared.table.FoundOp.{FoundOp}
 use Rattle.opcodes.specs.Table.{opcode_of, modifier_of, op_of}
 
 pub record Known (o : Op) : Type 0 where
   pub opcode : opcode_of o < 255
   pub modifier : modifier_of o < 16
-  pub found : op_of (opcode_of o) (modifier_of o) ≡ FoundOp.Carried o
+  pub found : op_of (opcode_of o) (modifier_of o) ≡ Some o
 
-known : {o : Op} → T (ltb (opcode_of o) 255) → T (ltb (modifier_of o) 16) → op_of (opcode_of o) (modifier_of o) ≡ FoundOp.Carried o → Known o
+known : {o : Op} → T (ltb (opcode_of o) 255) → T (ltb (modifier_of o) 16) → op_of (opcode_of o) (modifier_of o) ≡ Some o → Known o
 known {o} a b e = record { opcode = ltb→lt (opcode_of o) 255 a; modifier = ltb→lt (modifier_of o) 16 b; found = e }
 
 two : (o : TwoOp) → Known (Op.Two o)

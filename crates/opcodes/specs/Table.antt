@@ -1,5 +1,5 @@
 -- The table of operations: the opcode and the modifier of each, and the operation that a word names.
-use Rattle.std.specs.Prelude.{Bool, cond, ◌&&◌, List, [], ◌∷◌, ◌++◌, ℕ, eqb}
+use Rattle.std.specs.Prelude.{Bool, cond, ◌&&◌, List, [], ◌∷◌, ◌++◌, ℕ, eqb, Option, Some, None}
 use Rattle.instructions.specs.declared.instr.TwoOp.{TwoOp}
 use Rattle.instructions.specs.declared.instr.CompareOp.{CompareOp}
 use Rattle.instructions.specs.declared.instr.OneOp.{OneOp}
@@ -8,7 +8,6 @@ use Rattle.instructions.specs.declared.instr.WaveOp.{WaveOp}
 use Rattle.instructions.specs.declared.instr.ControlOp.{ControlOp}
 use Rattle.instructions.specs.declared.instr.Space.{Space}
 use Rattle.instructions.specs.declared.instr.Op.{Op}
-use Rattle.opcodes.specs.declared.table.FoundOp.{FoundOp}
 
 -- two words, RS2
 abbrev pub two_code : TwoOp → ℕ
@@ -176,14 +175,14 @@ abbrev pub operations : List Op
 operations = in_registers ++ (reaching ++ controls)
 
 -- the first operation of a list that passes a test
-abbrev pub find : (Op → Bool) → List Op → FoundOp
-find test [] = FoundOp.Missing
-find test (o ∷ os) = cond (test o) (FoundOp.Carried o) (find test os)
+abbrev pub find : (Op → Bool) → List Op → Option Op
+find test [] = None
+find test (o ∷ os) = cond (test o) (Some o) (find test os)
 
 -- an operation has this opcode and this modifier
 abbrev pub has : ℕ → ℕ → Op → Bool
 has opcode modifier o = eqb opcode (opcode_of o) && eqb modifier (modifier_of o)
 
 -- the operation of an opcode and a modifier
-abbrev pub op_of : ℕ → ℕ → FoundOp
+abbrev pub op_of : ℕ → ℕ → Option Op
 op_of opcode modifier = find (has opcode modifier) operations

@@ -1,19 +1,13 @@
-// The table of operations: from an opcode and a modifier to the operation, and back.
+// The table of operations: from an opcode and a modifier to the operation, and back. By functions with a name, and not `From` and `TryFrom`: an
+// operation has two numbers, and the type of each would say neither.
 ghost use Rattle.std.specs.Prelude.{◌≡◌};
 ghost use Rattle.opcodes.specs.Table.{two_code, compare_code, one_code, load_code, store_code, opcode_of, atomic_modifier, wave_modifier, control_modifier, modifier_of, sums, bitwise, moves, accesses, atomics, crossings, controls, in_registers, reaching, find, has, op_of};
 ghost use Rattle.opcodes.specs.Named.{Named};
 
 use instructions::instr::{AtomicOp, CompareOp, ControlOp, OneOp, Op, Space, TwoOp, WaveOp};
 
-// What an opcode and a modifier name.
-#[derive(Clone, Copy)]
-pub enum FoundOp {
-    Carried(Op),
-    Missing,
-}
-
 // The operation of an opcode 00 to 0F: those on numbers.
-fn sum_op(opcode: u32) -> FoundOp
+fn sum_op(opcode: u32) -> Option<Op>
     ensures { Named opcode_of sums opcode result }
 {
     let op = match opcode {
@@ -29,13 +23,13 @@ fn sum_op(opcode: u32) -> FoundOp
         0x09 => Op::Two(TwoOp::Min),
         0x0A => Op::Two(TwoOp::Max),
         0x0B => Op::Two(TwoOp::Mulhi),
-        _ => return FoundOp::Missing,
+        _ => return None,
     };
-    FoundOp::Carried(op)
+    Some(op)
 }
 
 // The operation of an opcode 20 to 2F: those on bits, and the comparisons.
-fn bitwise_op(opcode: u32) -> FoundOp
+fn bitwise_op(opcode: u32) -> Option<Op>
     ensures { Named opcode_of bitwise opcode result }
 {
     let op = match opcode {
@@ -51,26 +45,26 @@ fn bitwise_op(opcode: u32) -> FoundOp
         0x29 => Op::Compare(CompareOp::Ne),
         0x2A => Op::Compare(CompareOp::Lt),
         0x2B => Op::Compare(CompareOp::Ge),
-        _ => return FoundOp::Missing,
+        _ => return None,
     };
-    FoundOp::Carried(op)
+    Some(op)
 }
 
 // The operation of an opcode F0 to FF: the moves.
-fn move_op(opcode: u32) -> FoundOp
+fn move_op(opcode: u32) -> Option<Op>
     ensures { Named opcode_of moves opcode result }
 {
     let op = match opcode {
         0xF0 => Op::One(OneOp::Mov),
         0xF1 => Op::Number,
         0xF2 => Op::Special,
-        _ => return FoundOp::Missing,
+        _ => return None,
     };
-    FoundOp::Carried(op)
+    Some(op)
 }
 
 // The operation of an opcode 30 to 3F that has no modifiers: those of memory.
-fn access_op(opcode: u32) -> FoundOp
+fn access_op(opcode: u32) -> Option<Op>
     ensures { Named opcode_of accesses opcode result }
 {
     let op = match opcode {
@@ -79,74 +73,74 @@ fn access_op(opcode: u32) -> FoundOp
         0x38 => Op::Load(Space::Local),
         0x39 => Op::Store(Space::Local),
         0x3D => Op::Cas,
-        _ => return FoundOp::Missing,
+        _ => return None,
     };
-    FoundOp::Carried(op)
+    Some(op)
 }
 
 // The operation of ATOMIC by its modifier. Each arm is the whole answer, as in `named_control`: put together after the match, it would go
 // through memory at every step.
-fn atomic_op(modifier: u32) -> FoundOp
+fn atomic_op(modifier: u32) -> Option<Op>
     ensures { Named modifier_of atomics modifier result }
 {
     match modifier {
-        0 => FoundOp::Carried(Op::Atomic(AtomicOp::Add)),
-        1 => FoundOp::Carried(Op::Atomic(AtomicOp::Sub)),
-        2 => FoundOp::Carried(Op::Atomic(AtomicOp::And)),
-        3 => FoundOp::Carried(Op::Atomic(AtomicOp::Or)),
-        4 => FoundOp::Carried(Op::Atomic(AtomicOp::Xor)),
-        5 => FoundOp::Carried(Op::Atomic(AtomicOp::Min)),
-        6 => FoundOp::Carried(Op::Atomic(AtomicOp::Max)),
-        7 => FoundOp::Carried(Op::Atomic(AtomicOp::Umin)),
-        8 => FoundOp::Carried(Op::Atomic(AtomicOp::Umax)),
-        9 => FoundOp::Carried(Op::Atomic(AtomicOp::Xchg)),
-        _ => FoundOp::Missing,
+        0 => Some(Op::Atomic(AtomicOp::Add)),
+        1 => Some(Op::Atomic(AtomicOp::Sub)),
+        2 => Some(Op::Atomic(AtomicOp::And)),
+        3 => Some(Op::Atomic(AtomicOp::Or)),
+        4 => Some(Op::Atomic(AtomicOp::Xor)),
+        5 => Some(Op::Atomic(AtomicOp::Min)),
+        6 => Some(Op::Atomic(AtomicOp::Max)),
+        7 => Some(Op::Atomic(AtomicOp::Umin)),
+        8 => Some(Op::Atomic(AtomicOp::Umax)),
+        9 => Some(Op::Atomic(AtomicOp::Xchg)),
+        _ => None,
     }
 }
 
 // The wave operation by its modifier.
-fn wave_op(modifier: u32) -> FoundOp
+fn wave_op(modifier: u32) -> Option<Op>
     ensures { Named modifier_of crossings modifier result }
 {
     match modifier {
-        0 => FoundOp::Carried(Op::Wave(WaveOp::Broadcast)),
-        1 => FoundOp::Carried(Op::Wave(WaveOp::ReduceAdd)),
-        2 => FoundOp::Carried(Op::Wave(WaveOp::ReduceMin)),
-        3 => FoundOp::Carried(Op::Wave(WaveOp::ReduceMax)),
-        4 => FoundOp::Carried(Op::Wave(WaveOp::PrefixSum)),
-        5 => FoundOp::Carried(Op::Shuffle),
-        6 => FoundOp::Carried(Op::Wave(WaveOp::Ballot)),
-        7 => FoundOp::Carried(Op::Wave(WaveOp::Any)),
-        8 => FoundOp::Carried(Op::Wave(WaveOp::All)),
-        _ => FoundOp::Missing,
+        0 => Some(Op::Wave(WaveOp::Broadcast)),
+        1 => Some(Op::Wave(WaveOp::ReduceAdd)),
+        2 => Some(Op::Wave(WaveOp::ReduceMin)),
+        3 => Some(Op::Wave(WaveOp::ReduceMax)),
+        4 => Some(Op::Wave(WaveOp::PrefixSum)),
+        5 => Some(Op::Shuffle),
+        6 => Some(Op::Wave(WaveOp::Ballot)),
+        7 => Some(Op::Wave(WaveOp::Any)),
+        8 => Some(Op::Wave(WaveOp::All)),
+        _ => None,
     }
 }
 
 // The operation of control by its modifier.
-fn named_control(modifier: u32) -> FoundOp
+fn named_control(modifier: u32) -> Option<Op>
     ensures { Named modifier_of controls modifier result }
 {
     match modifier {
-        0 => FoundOp::Carried(Op::Control(ControlOp::If)),
-        1 => FoundOp::Carried(Op::Control(ControlOp::Else)),
-        2 => FoundOp::Carried(Op::Control(ControlOp::Endif)),
-        3 => FoundOp::Carried(Op::Control(ControlOp::Loop)),
-        4 => FoundOp::Carried(Op::Control(ControlOp::Break)),
-        5 => FoundOp::Carried(Op::Control(ControlOp::Continue)),
-        6 => FoundOp::Carried(Op::Control(ControlOp::Endloop)),
-        9 => FoundOp::Carried(Op::Control(ControlOp::Halt)),
-        10 => FoundOp::Carried(Op::Control(ControlOp::Barrier)),
-        15 => FoundOp::Carried(Op::Control(ControlOp::Nop)),
-        _ => FoundOp::Missing,
+        0 => Some(Op::Control(ControlOp::If)),
+        1 => Some(Op::Control(ControlOp::Else)),
+        2 => Some(Op::Control(ControlOp::Endif)),
+        3 => Some(Op::Control(ControlOp::Loop)),
+        4 => Some(Op::Control(ControlOp::Break)),
+        5 => Some(Op::Control(ControlOp::Continue)),
+        6 => Some(Op::Control(ControlOp::Endloop)),
+        9 => Some(Op::Control(ControlOp::Halt)),
+        10 => Some(Op::Control(ControlOp::Barrier)),
+        15 => Some(Op::Control(ControlOp::Nop)),
+        _ => None,
     }
 }
 
 // The operation of an opcode and a modifier among those that touch registers and predicates alone.
-pub fn register_op(opcode: u32, modifier: u32) -> FoundOp
+pub fn register_op(opcode: u32, modifier: u32) -> Option<Op>
     ensures { result ≡ find (has opcode modifier) in_registers }
 {
     if modifier != 0 {
-        return FoundOp::Missing;
+        return None;
     }
     if opcode < 0x10 {
         return sum_op(opcode);
@@ -158,7 +152,7 @@ pub fn register_op(opcode: u32, modifier: u32) -> FoundOp
 }
 
 // The operation of an opcode and a modifier among those that reach memory and the other lanes.
-pub fn reaching_op(opcode: u32, modifier: u32) -> FoundOp
+pub fn reaching_op(opcode: u32, modifier: u32) -> Option<Op>
     ensures { result ≡ find (has opcode modifier) reaching }
 {
     if opcode == 0x3C {
@@ -170,18 +164,18 @@ pub fn reaching_op(opcode: u32, modifier: u32) -> FoundOp
     if modifier == 0 {
         return access_op(opcode);
     }
-    FoundOp::Missing
+    None
 }
 
 // The operation of control with this modifier.
-pub fn control_op(modifier: u32) -> FoundOp
+pub fn control_op(modifier: u32) -> Option<Op>
     ensures { result ≡ find (has 0x3F modifier) controls }
 {
     named_control(modifier)
 }
 
 // The operation of an opcode and a modifier.
-pub fn op_of(opcode: u32, modifier: u32) -> FoundOp
+pub fn op_of(opcode: u32, modifier: u32) -> Option<Op>
     ensures { result ≡ op_of opcode modifier }
 {
     if opcode == 0x3F {

@@ -42,24 +42,7 @@ pub fn two(op: TwoOp, a: u32, b: u32) -> u32
 pub fn divides(op: TwoOp) -> bool
     ensures { result ≡ arith.divides op }
 {
-    match op {
-        TwoOp::Add => false,
-        TwoOp::Sub => false,
-        TwoOp::Mul => false,
-        TwoOp::Div => true,
-        TwoOp::Udiv => true,
-        TwoOp::Rem => true,
-        TwoOp::Urem => true,
-        TwoOp::Min => false,
-        TwoOp::Max => false,
-        TwoOp::Mulhi => false,
-        TwoOp::And => false,
-        TwoOp::Or => false,
-        TwoOp::Xor => false,
-        TwoOp::Shl => false,
-        TwoOp::Shr => false,
-        TwoOp::Sar => false,
-    }
+    matches!(op, TwoOp::Div | TwoOp::Udiv | TwoOp::Rem | TwoOp::Urem)
 }
 
 // What `op` gives of RS1 alone.
@@ -99,8 +82,8 @@ pub fn atomic(op: AtomicOp, old: u32, v: u32) -> u32
         AtomicOp::Xor => old ^ v,
         AtomicOp::Min => min(old, v),
         AtomicOp::Max => max(old, v),
-        AtomicOp::Umin => if old < v { old } else { v },
-        AtomicOp::Umax => if old < v { v } else { old },
+        AtomicOp::Umin => old.min(v),
+        AtomicOp::Umax => old.max(v),
         AtomicOp::Xchg => v,
     }
 }

@@ -1,11 +1,24 @@
 // A state as words and back, in the order that captures have: place, active, halted, p1, p2, p3, depth, and then six numbers for each
-// block, outermost first.
+// block, outermost first. By functions with a name, since a `From` of an array wouldn't say that its words are a state's.
 #![tactic(auto)]
 
-ghost use Rattle.std.specs.Prelude.{◌≡◌, ◌++◌, get_or};
-ghost use Rattle.packing.specs.Words.{hot_in, blocks_in, state_in, words_of, word_count};
+ghost use Rattle.std.specs.Prelude.{◌≡◌, ◌+◌, ◌*◌, ◌<◌, ◌++◌, get_or, take};
+ghost use Rattle.std.specs.List.{flat_map};
+ghost use Rattle.lanes.specs.Blocks.{nesting};
+ghost use Rattle.wave.specs.Layout.{block_numbers};
+ghost use Rattle.packing.specs.Words.{
+  hot_words,
+  hot_in,
+  block_in,
+  blocks_in,
+  state_in,
+  block_words,
+  words_of,
+  word_count,
+};
 
-use wave::state::{BLOCK_NUMBERS, Hot, PATH_NUMBERS, State, depth_of, whole};
+use lanes::said::{Block, DEEPEST};
+use wave::state::{BLOCK_NUMBERS, Hot, NO_BLOCK, State, depth_of};
 
 // The words before those of the blocks, and which of them is the depth, counted from 0.
 pub const HOT_WORDS: usize = 7;
@@ -13,13 +26,13 @@ pub const HOT_WORDS: usize = 7;
 pub const DEPTH_WORD: usize = 6;
 
 // The words of a state with as many blocks as there is room for.
-pub const STATE_WORDS: usize = HOT_WORDS + PATH_NUMBERS;
+pub const STATE_WORDS: usize = HOT_WORDS + BLOCK_NUMBERS * DEEPEST;
 
 // Word k, 0 where there are not so many.
 fn word_at(words: &[u32], k: usize) -> u32
     ensures { result ≡ get_or words.now k 0 }
 {
-    if k < words.len() { words[k] } else { 0 }
+    words.get(k).copied().unwrap_or(0)
 }
 
 // The numbers before the blocks.
@@ -37,15 +50,29 @@ fn hot_of(words: &[u32]) -> Hot
     }
 }
 
-// The numbers of the blocks.
-fn blocks_of(words: &[u32]) -> [u32; PATH_NUMBERS]
+// The block whose words are those of block k.
+fn block_of(words: &[u32], k: usize) -> Block
+    requires { k < nesting }
+    ensures { result ≡ block_in words.now (hot_words + block_numbers * k) }
+{
+    let at = HOT_WORDS + BLOCK_NUMBERS * k;
+    Block {
+        part: word_at(words, at),
+        opener: word_at(words, at + 1),
+        entered: word_at(words, at + 2),
+        aside: word_at(words, at + 3),
+        again: word_at(words, at + 4),
+        left: word_at(words, at + 5),
+    }
+}
+
+// The blocks.
+fn blocks_of(words: &[u32]) -> [Block; DEEPEST]
     ensures { result ≡ blocks_in words.now }
 {
-    let mut blocks = [0u32; PATH_NUMBERS];
-    let mut k: usize = 0;
-    while k < PATH_NUMBERS {
-        blocks[k] = word_at(words, HOT_WORDS + k);
-        k += 1;
+    let mut blocks = [NO_BLOCK; DEEPEST];
+    for k in 0..DEEPEST {
+        blocks[k] = block_of(words, k);
     }
     blocks
 }
@@ -59,15 +86,16 @@ pub fn state_of(words: &[u32]) -> State
     State { hot, blocks }
 }
 
-// Number k of `front` and then `rest`, 0 where there are not so many.
-fn joined_at(front: &[u32], rest: &[u32], k: usize) -> u32
-    ensures { result ≡ get_or (front.now ++ rest.now) k 0 }
+// Puts the words of the blocks behind those of the numbers before them.
+fn put_blocks(blocks: &[Block; DEEPEST], words: &mut [u32; STATE_WORDS])
+    ensures { words.new ≡ take hot_words words.old ++ flat_map block_words blocks.now }
 {
-    if k < front.len() {
-        return front[k];
+    for (k, b) in blocks.iter().enumerate() {
+        let at = HOT_WORDS + BLOCK_NUMBERS * k;
+        words[at..at + BLOCK_NUMBERS].copy_from_slice(&[
+            b.part, b.opener, b.entered, b.aside, b.again, b.left,
+        ]);
     }
-    let past = k - front.len();
-    word_at(rest, past)
 }
 
 // The words of a state, all the room for blocks among them.
@@ -75,15 +103,10 @@ pub fn words_of(state: State) -> [u32; STATE_WORDS]
     ensures { result ≡ words_of state }
 {
     let h = state.hot;
-    let blocks = state.blocks;
-    whole(&blocks);
     let front = [h.place, h.active, h.halted, h.p1, h.p2, h.p3, h.depth];
     let mut words = [0u32; STATE_WORDS];
-    let mut k: usize = 0;
-    while k < STATE_WORDS {
-        words[k] = joined_at(&front, &blocks, k);
-        k += 1;
-    }
+    words[..HOT_WORDS].copy_from_slice(&front);
+    put_blocks(&state.blocks, &mut words);
     words
 }
 

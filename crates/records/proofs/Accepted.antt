@@ -7,7 +7,8 @@ use native.Mathlib.Omega.{arith}
 use lib.Dec.{ltb}
 use lib.ListN.{length}
 use borrow.Author.Tests.{ltb-false, le-ltb}
-use Rattle.refusals.specs.Table.{Rule, number_of}
+use Rattle.refusals.specs.declared.Rule.{Rule}
+use Rattle.refusals.specs.Table.{number_of}
 use Rattle.ground.specs.Tests.{same_list, all_of}
 use Rattle.ground.proofs.Bools.{and_left, and_right, and_both}
 use Rattle.ground.proofs.Tests.{same_refl, same_true}
@@ -45,7 +46,7 @@ module _ {L : Layout} (K : Lawful L) where
 
   -- the tests, one after the other
   tested : (f : List ℕ) (a b c : Bool) → ltb (length f) count_bytes ≡ a → ltb most_records (count_of f) ≡ b → is_file L f ≡ c
-      → cond a (number_of Rule.not_of_layout) (cond b (number_of Rule.too_many) (cond c 0 (number_of Rule.not_of_layout))) ≡ 0 → Accepted L f
+      → cond a (number_of Rule.NotOfLayout) (cond b (number_of Rule.TooMany) (cond c 0 (number_of Rule.NotOfLayout))) ≡ 0 → Accepted L f
   tested f true b c ea eb ec h = absurd (omega arith)
   tested f false true c ea eb ec h = absurd (omega arith)
   tested f false false true ea eb ec h = record { long = ltb-false _ _ ea; few = ltb-false _ _ eb; file = ec }

@@ -1,5 +1,7 @@
 -- Reading a day file is refused exactly if a rule of the page's table is broken, with the number and at the place that the table gives it: the
 -- file's tests are taken one after the other.
+use Rattle.std.specs.Prelude.{Result, Ok, Err}
+use Rattle.records.specs.declared.reading.Record.{Record}
 use Prim.Native.Nat.{ℕ, ◌-◌, ◌<◌}
 use native.Mathlib.Omega.{arith}
 use mathlib.Core.Path.{◌≡◌, refl, sym, ap, ◌∙◌, subst}
@@ -10,21 +12,20 @@ use lib.Dec.{leb, ltb, eqb}
 use lib.ListN.{length}
 use borrow.Author.Tests.{lt-ltb, le-ltb, ltb-true, ltb-false, leb-false, lt-leb, eqb-true, eqb-false, ne_eqb}
 use Rattle.refusals.specs.declared.Refusal.{Refusal}
-use Rattle.refusals.specs.Table.{Rule, number_of, broken}
+use Rattle.refusals.specs.declared.Rule.{Rule}
+use Rattle.refusals.specs.Table.{number_of, broken}
 use Rattle.ground.proofs.Bools.{never}
 use Rattle.ground.proofs.Tests.{false_of, or_cases}
 use Rattle.numbers.specs.Placed.{placed}
 use Rattle.dayfile.specs.Day.{most_records, Layout, count_of, count_bytes, bodies_of}
 use Rattle.dayfile.proofs.Layouts.{Lawful}
-use Rattle.records.specs.declared.answer.ReadAnswer.TheVariants.{Record, Refused as NotRead}
-use Rattle.records.specs.declared.answer.CountAnswer.TheVariants.{Count, Refused as NotCounted}
-use Rattle.records.specs.Read.{is_file, refusal_of, of_file, record_of, read_answer, firsts_of, counted, firsts_in}
+use Rattle.records.specs.Read.{recorded, is_file, refusal_of, of_file, record_of, read_answer, firsts_of, counted, firsts_in}
 use Rattle.records.specs.Refusals.{FileBreaks, no_count, count_over, not_given}
 use Rattle.records.specs.Refusals.{ReadBreaks, in_file, no_such, FirstsBreak, in_the_file, no_room_for}
 use Rattle.records.proofs.Accepted.{file_given, given_file, accepted_given, given_accepted}
 use Rattle.records.proofs.Theorems.{uncounted}
 
-record_not_refused : {A : Type 0} (a b c : ℕ) (x : Refusal) → Record a b c ≡ NotRead x → A
+record_not_refused : {A : Type 0} (a b c : ℕ) (x : Refusal) → recorded a b c ≡ Err x → A
 record_not_refused a b c x e = absurd (let z : ◌≡◌ {A = ℕ} 0 1 = cc in omega arith)
 
 module _ {L : Layout} (K : Lawful L) (f : List ℕ) where
@@ -37,7 +38,7 @@ module _ {L : Layout} (K : Lawful L) (f : List ℕ) where
 
   -- the number of the tests' outcome
   abbrev number : Bool → Bool → Bool → ℕ
-  number a b c = cond a (number_of Rule.not_of_layout) (cond b (number_of Rule.too_many) (cond c 0 (number_of Rule.not_of_layout)))
+  number a b c = cond a (number_of Rule.NotOfLayout) (cond b (number_of Rule.TooMany) (cond c 0 (number_of Rule.NotOfLayout)))
 
   file_tested : (a b c : Bool) → ltb (length f) count_bytes ≡ a → ltb most_records (count_of f) ≡ b → is_file L f ≡ c
       → (number a b c ≡ 0 → ⊥) → FileBreaks L f (of_file (number a b c))
@@ -57,14 +58,14 @@ module _ {L : Layout} (K : Lawful L) (f : List ℕ) where
   broken_number x (not_given l c none) e = let z = ap (λ (y : Refusal). y.number) (file_broken x (not_given l c none)) in omega arith
 
   module _ (i : ℕ) where
-    read_as : (x y : Refusal) → ReadBreaks L f i x → NotRead x ≡ NotRead y → ReadBreaks L f i y
+    read_as : (x y : Refusal) → ReadBreaks L f i x → ◌≡◌ {A = Result Record Refusal} (Err x) (Err y) → ReadBreaks L f i y
     read_as x y b e = let z : x ≡ y = cc in subst (ReadBreaks L f i) z b
 
     read_tested : (x : Refusal) (a b : Bool) → eqb (refusal_of L f) 0 ≡ a → (eqb i 0 || ltb (count_of f) i) ≡ b
-        → cond a (cond b (NotRead (broken Rule.no_record 0)) (record_of L f (i - 1))) (NotRead (of_file (refusal_of L f))) ≡ NotRead x → ReadBreaks L f i x
+        → cond a (cond b (Err (broken Rule.NoRecord 0)) (record_of L f (i - 1))) (Err (of_file (refusal_of L f))) ≡ Err x → ReadBreaks L f i x
     unfolding record_of
     read_tested x true true ea eb e =
-        read_as (broken Rule.no_record 0) x
+        read_as (broken Rule.NoRecord 0) x
         (no_such (accepted_given K f (eqb-true _ _ ea)) (⊎_elim (λ h. inl (eqb-true i 0 h)) (λ h. inr (ltb-true (count_of f) i h)) (or_cases _ _ eb))) e
     read_tested x true false ea eb e = record_not_refused _ _ _ x e
     read_tested x false b ea eb e = read_as (of_file (refusal_of L f)) x (in_file (file_refused (eqb-false _ _ ea))) e
@@ -73,34 +74,34 @@ module _ {L : Layout} (K : Lawful L) (f : List ℕ) where
     out_of (inl e) = rw e refl
     out_of (inr h) = rw (lt-ltb (count_of f) i h) (or-true (eqb i 0))
 
-    read_broken : (x : Refusal) → ReadBreaks L f i x → read_answer L f i ≡ NotRead x
+    read_broken : (x : Refusal) → ReadBreaks L f i x → read_answer L f i ≡ Err x
     unfolding read_answer
-    read_broken x (in_file b) = rw (ne_eqb (refusal_of L f) 0 (broken_number x b)) (ap NotRead (file_broken x b))
+    read_broken x (in_file b) = rw (ne_eqb (refusal_of L f) 0 (broken_number x b)) (ap Err (file_broken x b))
     read_broken x (no_such g h) = rw (given_accepted K f g, out_of h) refl
 
     -- READING A RECORD IS REFUSED exactly by the first rule that is broken
-    pub read_refused : (x : Refusal) → (read_answer L f i ≡ NotRead x) ↔ ReadBreaks L f i x
+    pub read_refused : (x : Refusal) → (read_answer L f i ≡ Err x) ↔ ReadBreaks L f i x
     unfolding read_answer
     read_refused x = (read_tested x (eqb (refusal_of L f) 0) (eqb i 0 || ltb (count_of f) i) refl refl, read_broken x)
 
   module _ (out : List ℕ) where
-    firsts_as : (x y : Refusal) → FirstsBreak L f out x → NotCounted x ≡ NotCounted y → FirstsBreak L f out y
+    firsts_as : (x y : Refusal) → FirstsBreak L f out x → ◌≡◌ {A = Result ℕ Refusal} (Err x) (Err y) → FirstsBreak L f out y
     firsts_as x y b e = let z : x ≡ y = cc in subst (FirstsBreak L f out) z b
 
     firsts_tested : (x : Refusal) (a b : Bool) → eqb (refusal_of L f) 0 ≡ a → leb (count_of f) (length out) ≡ b
-        → (cond a (cond b (counted (Count (count_of f)) (placed out 0 (firsts_of (bodies_of L f)))) (counted (NotCounted (broken Rule.short 0)) out))
-        (counted (NotCounted (of_file (refusal_of L f))) out)).answer ≡ NotCounted x → FirstsBreak L f out x
+        → (cond a (cond b (counted (Ok (count_of f)) (placed out 0 (firsts_of (bodies_of L f)))) (counted (Err (broken Rule.Short 0)) out))
+        (counted (Err (of_file (refusal_of L f))) out)).answer ≡ Err x → FirstsBreak L f out x
     firsts_tested x true true ea eb e = absurd (uncounted _ x e)
     firsts_tested x true false ea eb e =
-        firsts_as (broken Rule.short 0) x (no_room_for (accepted_given K f (eqb-true _ _ ea)) (leb-false _ _ eb)) e
+        firsts_as (broken Rule.Short 0) x (no_room_for (accepted_given K f (eqb-true _ _ ea)) (leb-false _ _ eb)) e
     firsts_tested x false b ea eb e = firsts_as (of_file (refusal_of L f)) x (in_the_file (file_refused (eqb-false _ _ ea))) e
 
-    firsts_broken : (x : Refusal) → FirstsBreak L f out x → (firsts_in L f out).answer ≡ NotCounted x
+    firsts_broken : (x : Refusal) → FirstsBreak L f out x → (firsts_in L f out).answer ≡ Err x
     unfolding firsts_in
-    firsts_broken x (in_the_file b) = rw (ne_eqb (refusal_of L f) 0 (broken_number x b)) (ap NotCounted (file_broken x b))
+    firsts_broken x (in_the_file b) = rw (ne_eqb (refusal_of L f) 0 (broken_number x b)) (ap Err (file_broken x b))
     firsts_broken x (no_room_for g h) = rw (given_accepted K f g, lt-leb _ _ h) refl
 
     -- THE FIRST EQUAL RECORDS are refused exactly by the first rule that is broken
-    pub firsts_refused : (x : Refusal) → ((firsts_in L f out).answer ≡ NotCounted x) ↔ FirstsBreak L f out x
+    pub firsts_refused : (x : Refusal) → ((firsts_in L f out).answer ≡ Err x) ↔ FirstsBreak L f out x
     unfolding firsts_in
     firsts_refused x = (firsts_tested x (eqb (refusal_of L f) 0) (leb (count_of f) (length out)) refl refl, firsts_broken x)

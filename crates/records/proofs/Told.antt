@@ -14,8 +14,8 @@ use Rattle.dayfile.specs.Day.{Layout, table_end, place_of, length_of, file_of, L
 use Rattle.dayfile.proofs.Layouts.{Lawful}
 use Rattle.dayfile.proofs.Lists.{parted, bodies_file}
 use Rattle.dayfile.proofs.Tables.{row_of}
-use Rattle.records.specs.declared.answer.ReadAnswer.TheVariants.{Record}
-use Rattle.records.specs.Read.{first_same, firsts_of, read_answer}
+use Rattle.records.specs.Read.{recorded, first_same, firsts_of, read_answer}
+use Rattle.records.specs.declared.reading.Record.{Record}
 use Rattle.records.specs.Told.{body, Told}
 use Rattle.records.proofs.Records.{read_so, first_at_lem}
 use Rattle.records.proofs.Theorems.{made_accepted}
@@ -103,21 +103,24 @@ module _ {L : Layout} (K : Lawful L) (bs : List (List ℕ)) (listed : Listed L b
         none_before = λ j a b e. first_of.0.before (j - 1) (omega arith) e;
       }
 
-  answers : read_answer L f i ≡ Record place long first
+  answers : read_answer L f i ≡ recorded place long first
   answers =
       let p = parted K f bs listed refl in
       sym (read_so L f i (made_accepted K bs listed) (λ e. omega arith) (omega (arith, p.count)) refl refl
       (ap (λ (l : List (List ℕ)). first_same (get_or l (i - 1) []) l) (sym (bodies_file K bs listed))))
 
-  told_as : (p l n : ℕ) → Record place long first ≡ Record p l n → Told bs i p l n
+  one_record : {a b c p l n : ℕ} → recorded a b c ≡ recorded p l n → (a ≡ p) × ((b ≡ l) × (c ≡ n))
+  one_record {a} {b} {c} {p} {l} {n} e =
+      let r : ◌≡◌ {A = Record} (record { place = a; length = b; first = c }) (record { place = p; length = l; first = n }) = cc in
+      (ap (λ (x : Record). x.place) r, (ap (λ (x : Record). x.length) r, ap (λ (x : Record). x.first) r))
+
+  told_as : (p l n : ℕ) → recorded place long first ≡ recorded p l n → Told bs i p l n
   told_as p l n e =
-      let a : place ≡ p = cc in
-      let b : long ≡ l = cc in
-      let c : first ≡ n = cc in
+      let (a, (b, c)) = one_record e in
       subst (λ (x : ℕ). Told bs i p l x) c (subst (λ (x : ℕ). Told bs i p x first) b (subst (λ (x : ℕ). Told bs i x long first) a told))
 
   -- READING RECORD i of a list's file tells exactly where body i stands, how long it is, and the first record with equal bytes
-  pub told_if : (p l n : ℕ) → (read_answer L f i ≡ Record p l n) ↔ Told bs i p l n
+  pub told_if : (p l n : ℕ) → (read_answer L f i ≡ recorded p l n) ↔ Told bs i p l n
   told_if p l n = (
     λ e. told_as p l n (sym answers ∙ e),
     λ t.
@@ -135,6 +138,6 @@ module _ {L : Layout} (K : Lawful L) (bs : List (List ℕ)) (listed : Listed L b
   -- the number that `firsts` puts for record i is that first record
   pub firsts_told : (p l n : ℕ) → Told bs i p l n → get_or (firsts_of bs) (i - 1) 0 ≡ n
   firsts_told p l n t =
-      let e : Record place long first ≡ Record p l n = sym answers ∙ (told_if p l n).1 t in
-      let same : first ≡ n = cc in
+      let e : recorded place long first ≡ recorded p l n = sym answers ∙ (told_if p l n).1 t in
+      let same : first ≡ n = (one_record e).1.1 in
       first_at_lem bs (i - 1) (omega arith) ∙ same

@@ -5,7 +5,9 @@
 #![tactic(auto)]
 
 mod accepting;
-pub mod answer;
+mod day;
 mod reading;
 
-pub use reading::{firsts, read};
+pub use accepting::accept;
+pub use day::DayFile;
+pub use reading::{Record, firsts, read};

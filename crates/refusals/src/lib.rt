@@ -1,57 +1,85 @@
-// Page 01's table of refusals: what every answer that refuses carries, and a name for each number.
+// Page 01's table of refusals: the rules that can be broken, the number of each, and what every answer that refuses carries.
 #![tactic(auto)]
 
+ghost use Rattle.std.specs.Prelude.{◌≡◌};
+ghost use Rattle.refusals.specs.Table.{number_of, broken};
+
+// A rule of the table.
+#[derive(Clone, Copy, Debug, PartialEq, Eq)]
+pub enum Rule {
+    // A setting.
+    Setting,
+    // Code too long.
+    LongCode,
+    // Register buffer length.
+    Buffer,
+    // Opcode not carried, or modifier not listed for it (none listed: not 0).
+    NotCarried,
+    // Second word missing.
+    NoSecond,
+    // A field, predicate form, predicate or special number.
+    Field,
+    // Register number R or more.
+    Register,
+    // Stray ELSE, ENDIF, ENDLOOP, BREAK, CONTINUE.
+    Stray,
+    // A 33rd open block.
+    Depth,
+    // Block open at the end.
+    Unclosed,
+    // State doesn't fit.
+    State,
+    // No words give this instruction, for R = 256.
+    NoWords,
+    // Output shorter than the result.
+    Short,
+    // Body or file not of the layout.
+    NotOfLayout,
+    // More than 1,024 records.
+    TooMany,
+    // No such record.
+    NoRecord,
+}
+
+impl Rule {
+    // Its number in the table.
+    pub fn number(self) -> u32
+        ensures { result ≡ number_of self }
+    {
+        match self {
+            Rule::Setting => 1,
+            Rule::LongCode => 2,
+            Rule::Buffer => 3,
+            Rule::NotCarried => 4,
+            Rule::NoSecond => 5,
+            Rule::Field => 6,
+            Rule::Register => 7,
+            Rule::Stray => 8,
+            Rule::Depth => 9,
+            Rule::Unclosed => 10,
+            Rule::State => 11,
+            Rule::NoWords => 12,
+            Rule::Short => 13,
+            Rule::NotOfLayout => 14,
+            Rule::TooMany => 15,
+            Rule::NoRecord => 16,
+        }
+    }
+}
+
 // The number of the rule that is broken, and where.
-#[derive(Clone, Copy)]
+#[derive(Clone, Copy, Debug, PartialEq, Eq)]
 pub struct Refusal {
     pub number: u32,
     pub place: usize,
 }
 
-// A setting.
-pub const SETTING: u32 = 1;
-
-// Code too long.
-pub const LONG_CODE: u32 = 2;
-
-// Register buffer length.
-pub const BUFFER: u32 = 3;
-
-// Opcode not carried, or modifier not listed for it.
-pub const NOT_CARRIED: u32 = 4;
-
-// Second word missing.
-pub const NO_SECOND: u32 = 5;
-
-// A field, predicate form, predicate or special number.
-pub const FIELD: u32 = 6;
-
-// Register number R or more.
-pub const REGISTER: u32 = 7;
-
-// Stray ELSE, ENDIF, ENDLOOP, BREAK, CONTINUE.
-pub const STRAY: u32 = 8;
-
-// A 33rd open block.
-pub const DEPTH: u32 = 9;
-
-// Block open at the end.
-pub const UNCLOSED: u32 = 10;
-
-// State doesn't fit.
-pub const STATE: u32 = 11;
-
-// No words give this instruction.
-pub const NO_WORDS: u32 = 12;
-
-// Output shorter than the result.
-pub const SHORT: u32 = 13;
-
-// Body or file not of the layout.
-pub const NOT_OF_LAYOUT: u32 = 14;
-
-// More than 1,024 records.
-pub const TOO_MANY: u32 = 15;
-
-// No such record.
-pub const NO_RECORD: u32 = 16;
+// The refusal of a broken rule.
+pub fn broken(rule: Rule, place: usize) -> Refusal
+    ensures { result ≡ broken rule place }
+{
+    Refusal {
+        number: rule.number(),
+        place,
+    }
+}

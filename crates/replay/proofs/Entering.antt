@@ -1,9 +1,10 @@
 -- How the ways into a replay come to what the definitions say: by the verdict of the tests, a refusal or the run.
-use mathlib.Core.Path.{◌≡◌, ap, ◌∙◌}
+use mathlib.Core.Path.{◌≡◌, ◌∙◌}
 use mathlib.Core.List.{List}
 use Prim.Native.Nat.{ℕ}
+use Rattle.std.specs.Prelude.{Ok, Err}
 use Rattle.refusals.specs.declared.Refusal.{Refusal}
-use Rattle.blocks.specs.declared.structure.Checked.{Checked}
+use Rattle.blocks.specs.Scan.{Checked}
 use Rattle.wave.specs.declared.state.State.{State}
 use Rattle.wave.specs.Wave.{state_of, launch, clear}
 use Rattle.compute.specs.Memory.{Memories, memories}
@@ -11,26 +12,19 @@ use Rattle.stepping.specs.declared.settings.Settings.{Settings}
 use Rattle.stepping.specs.declared.answers.Replayed.{Replayed}
 use Rattle.stepping.specs.Step.{launched_lanes}
 use Rattle.stepping.specs.Answer.{Answered, answered, state_machine, run_from}
-use Rattle.replay.specs.Replay.{refused_as, by_test, then_test, filled, local_after, launch_machine}
+use Rattle.replay.specs.Replay.{refused_as, by_test, filled, launch_machine}
 
 -- ---- by the verdict v of a test
 module _ {v test : Checked} (says : v ≡ test) where
-  -- the tests, one after the other
-  pub stops : (next : Checked) {r : Refusal} → v ≡ Checked.Refused r → Checked.Refused r ≡ then_test test next
-  stops next refuses = rw (← says) (rw refuses)
-
-  pub goes_on : (next : Checked) {x : Checked} → v ≡ Checked.Fine → x ≡ next → x ≡ then_test test next
-  goes_on next fine e = rw (← says) (rw fine e)
-
   -- the answer: a refusal, or the run
   pub refused_by :
       (run : Unit {0} → Answered) {refusal : Refusal} {r : Replayed} {state : State} {regs device local : List ℕ} →
-      v ≡ Checked.Refused refusal → r ≡ refused_as refusal state →
+      v ≡ Err refusal → r ≡ refused_as refusal state →
       answered r regs device local ≡ by_test test run state regs (memories device local)
   refused_by run refuses e = rw (← says) (rw (refuses, e))
 
   pub run_by :
-      (run : Unit {0} → Answered) (state : State) (regs : List ℕ) (y : Memories) {x : Answered} → v ≡ Checked.Fine → x ≡ run tt →
+      (run : Unit {0} → Answered) (state : State) (regs : List ℕ) (y : Memories) {x : Answered} → v ≡ Ok tt → x ≡ run tt →
       x ≡ by_test test run state regs y
   run_by run state regs y fine e = rw (← says) (rw fine e)
 
@@ -40,12 +34,3 @@ pub launched_run :
     state ≡ state_of (launch (launched_lanes s)) clear → x ≡ run_from s code (state_machine state regs device full) →
     x ≡ run_from s code (launch_machine s regs device local)
 launched_run s code regs device local fills is e = e ∙ rw (fills, is)
-
--- where a launch is refused, its local memory is as lent
-pub unfilled : {v : Checked} (local : List ℕ) {after : List ℕ} {r : Refusal} → after ≡ local_after v local → v ≡ Checked.Refused r
-    → after ≡ local
-unfilled local is refuses = is ∙ ap (λ (v : Checked). local_after v local) refuses
-
--- and where it runs it is filled
-pub full : {v : Checked} (local : List ℕ) {after : List ℕ} → after ≡ local_after v local → v ≡ Checked.Fine → after ≡ filled local
-full local is fine = is ∙ ap (λ (v : Checked). local_after v local) fine

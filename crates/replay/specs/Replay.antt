@@ -1,11 +1,11 @@
 -- Launching a kernel and going on from a state: the refusals in their order, and else the run.
-use Rattle.std.specs.Prelude.{ℕ, ◌*◌, Bool, cond, ◌&&◌, ◌||◌, List, eqb, leb, length, replicate}
+use Rattle.std.specs.Prelude.{ℕ, ◌*◌, Bool, cond, ◌&&◌, ◌||◌, List, eqb, leb, length, replicate, Ok, Err}
 use Rattle.refusals.specs.declared.Refusal.{Refusal}
-use Rattle.refusals.specs.Table.{Rule, broken}
+use Rattle.refusals.specs.declared.Rule.{Rule}
+use Rattle.refusals.specs.Table.{broken}
 use Rattle.blocks.specs.declared.item.Reading.{Reading}
-use Rattle.blocks.specs.declared.structure.Checked.{Checked}
 use Rattle.blocks.specs.Code.{code_of}
-use Rattle.blocks.specs.Scan.{check_of}
+use Rattle.blocks.specs.Scan.{Checked, check_of}
 use Rattle.wave.specs.declared.state.State.{State}
 use Rattle.wave.specs.Wave.{state_of, launch, clear}
 use Rattle.fits.specs.FitsTest.{fits_test}
@@ -43,20 +43,20 @@ reading_of s = record { registers = s.registers }
 
 -- ---- the tests, in their order: the first rule broken is the refusal
 abbrev pub then_test : Checked → Checked → Checked
-then_test Checked.Fine next = next
-then_test (Checked.Refused r) next = Checked.Refused r
+then_test (Ok tt) next = next
+then_test (Err r) next = Err r
 
 abbrev pub refused_unless : Bool → Refusal → Checked
-refused_unless ok r = cond ok Checked.Fine (Checked.Refused r)
+refused_unless ok r = cond ok (Ok tt) (Err r)
 
 abbrev pub setting_test : Settings → Checked
-setting_test s = refused_unless (settings_right s) (broken Rule.setting 0)
+setting_test s = refused_unless (settings_right s) (broken Rule.Setting 0)
 
 abbrev pub length_test : List ℕ → Checked
-length_test code = refused_unless (leb (length code) most_words) (broken Rule.long_code 0)
+length_test code = refused_unless (leb (length code) most_words) (broken Rule.LongCode 0)
 
 abbrev pub buffer_test : Settings → List ℕ → Checked
-buffer_test s regs = refused_unless (eqb (length regs) (s.width * s.registers)) (broken Rule.buffer 0)
+buffer_test s regs = refused_unless (eqb (length regs) (s.width * s.registers)) (broken Rule.Buffer 0)
 
 abbrev pub bounds_test : Settings → List ℕ → List ℕ → Checked
 bounds_test s code regs = then_test (setting_test s) (then_test (length_test code) (buffer_test s regs))
@@ -67,7 +67,7 @@ launch_test s code regs = then_test (bounds_test s code regs) (check_of (code_of
 
 -- then 11: the state doesn't fit
 abbrev pub state_test : Settings → State → List ℕ → Checked
-state_test s state code = refused_unless (fits_test code (reading_of s) s.lanes state.hot state.blocks) (broken Rule.state 0)
+state_test s state code = refused_unless (fits_test code (reading_of s) s.lanes state.hot state.blocks) (broken Rule.State 0)
 
 abbrev pub resume_test : Settings → State → List ℕ → List ℕ → Checked
 resume_test s state code regs = then_test (launch_test s code regs) (state_test s state code)
@@ -82,8 +82,8 @@ abbrev pub refused_call : Refusal → State → List ℕ → Memories → Answer
 refused_call r state regs y = record { outcome = Outcome.Refused r; steps = 0; state = state; regs = regs; memories = y }
 
 abbrev pub by_test : Checked → (Unit {0} → Answered) → State → List ℕ → Memories → Answered
-by_test Checked.Fine run state regs y = run tt
-by_test (Checked.Refused r) run state regs y = refused_call r state regs y
+by_test (Ok tt) run state regs y = run tt
+by_test (Err r) run state regs y = refused_call r state regs y
 
 -- ---- a launch
 -- local memory is filled with zeros
@@ -92,11 +92,6 @@ fill = 0
 
 abbrev pub filled : List ℕ → List ℕ
 filled local = replicate (length local) fill
-
--- local memory once a launch is tested: filled, or as lent where it is refused
-abbrev pub local_after : Checked → List ℕ → List ℕ
-local_after Checked.Fine local = filled local
-local_after (Checked.Refused r) local = local
 
 -- p1 to p3 clear, the launched lanes active, no block open, registers as lent
 abbrev pub launch_machine : Settings → List ℕ → List ℕ → List ℕ → Machine

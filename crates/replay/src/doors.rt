@@ -2,11 +2,9 @@
 ghost use Rattle.std.specs.Prelude.{◌≡◌};
 ghost use Rattle.stepping.specs.Step.{registers_in};
 ghost use Rattle.stepping.specs.Answer.{answered};
-ghost use Rattle.replay.specs.Replay.{refused_as, local_after, launch_of, resume_of};
+ghost use Rattle.replay.specs.Replay.{refused_as, launch_of, resume_of};
 
-use crate::filling::fill_with;
 use crate::refusing::{test_launch, test_resume};
-use blocks::structure::Checked;
 use refusals::Refusal;
 use stepping::answers::{Outcome, Replayed};
 use stepping::run::run_from;
@@ -28,15 +26,8 @@ fn refused(refusal: Refusal, state: State) -> Replayed
     }
 }
 
-// Local memory once a launch is tested: filled, or as lent where it is refused.
-fn fill_local(test: Checked, local: &mut [u32])
-    ensures { local.new ≡ local_after test local.old }
-{
-    match test {
-        Checked::Refused(_) => {}
-        Checked::Fine => fill_with(local, FILL),
-    }
-}
+// The code and the buffers are lent apart, here and below: a struct that holds a `&mut` owes in each contract that it holds the same one
+// still, and a caller would have to make it.
 
 // A kernel from its start. Refusals 1 to 10 change nothing lent and return place 0, empty sets and no block; otherwise local memory was
 // filled, whatever came after.
@@ -50,18 +41,19 @@ pub fn launch(
     ensures { answered result (registers_in settings regs.new) device.new local.new
         ≡ launch_of settings code.now (registers_in settings regs.old) device.old local.old }
 {
-    let test = test_launch(settings, code, regs);
-    fill_local(test, local);
-    match test {
-        Checked::Refused(refusal) => refused(refusal, not_launched()),
-        Checked::Fine => run_from(
-            settings,
-            launched(settings.lanes),
-            code,
-            regs,
-            device,
-            local,
-        ),
+    match test_launch(settings, code, regs) {
+        Err(refusal) => refused(refusal, not_launched()),
+        Ok(()) => {
+            local.fill(FILL);
+            run_from(
+                settings,
+                launched(settings.lanes),
+                code,
+                regs,
+                device,
+                local,
+            )
+        }
     }
 }
 
@@ -78,9 +70,8 @@ pub fn resume(
     ensures { answered result (registers_in settings regs.new) device.new local.new
         ≡ resume_of settings state code.now (registers_in settings regs.old) device.old local.old }
 {
-    let test = test_resume(settings, state, code, regs);
-    match test {
-        Checked::Refused(refusal) => refused(refusal, state),
-        Checked::Fine => run_from(settings, state, code, regs, device, local),
+    match test_resume(settings, state, code, regs) {
+        Err(refusal) => refused(refusal, state),
+        Ok(()) => run_from(settings, state, code, regs, device, local),
     }
 }

@@ -3,5 +3,4 @@
 
 pub mod allowed;
 pub mod doors;
-mod filling;
 mod refusing;

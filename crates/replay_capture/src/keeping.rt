@@ -1,6 +1,7 @@
 // What is kept of a replay: the end state as a capture, and a fault's body, each under the name that an argument gives.
+use crate::memory::Memory;
 use crate::saving::save;
-use captures::answer::{Head, WriteAnswer};
+use captures::answer::Head;
 use files::{PATH_ROOM, argument};
 use packing::{word_count, words_of};
 use std::rt::{Env, Files};
@@ -23,52 +24,23 @@ pub(crate) fn save_as(rt: &(impl Env + Files + Eprint), i: usize, bytes: &[u8]) 
     }
 }
 
-// Whether a run was refused.
-fn is_refused(outcome: Outcome) -> bool {
-    match outcome {
-        Outcome::Ended => false,
-        Outcome::OutOfBudget => false,
-        Outcome::Fault(f) => false,
-        Outcome::Refused(_) => true,
-    }
-}
-
-// Writes the capture of these words, made in `file`.
-fn keep_words(
-    rt: &(impl Env + Files + Eprint),
-    head: Head,
-    code: &[u32],
-    regs: &[u32],
-    device: &[u32],
-    local: &[u32],
-    state: &[u32],
-    file: &mut [u8],
-) {
-    let written = captures::write(head, code, regs, device, local, state, file);
-    if let WriteAnswer::Wrote(n) = written {
-        if n <= file.len() {
-            save_as(rt, OUT, &file[..n]);
-        }
-    }
-}
-
-// Writes the end state as a capture, with the same settings and code. A refused run writes none.
+// Writes the end state as a capture, with the same settings and code, made in `file`. A refused run writes none.
 pub(crate) fn keep_state(
     rt: &(impl Env + Files + Eprint),
     head: Head,
     answer: Replayed,
     code: &[u32],
-    regs: &[u32],
-    device: &[u32],
-    local: &[u32],
+    memory: &Memory,
     file: &mut [u8],
 ) {
-    let outcome = answer.outcome;
-    if is_refused(outcome) {
+    if matches!(answer.outcome, Outcome::Refused(_)) {
         return;
     }
-    let state = answer.state;
-    let words = words_of(state);
-    let n = word_count(state.hot.depth);
-    keep_words(rt, head, code, regs, device, local, &words[..n], file);
+    let words = words_of(answer.state);
+    let n = word_count(answer.state.hot.depth);
+    if let Ok(size) = captures::write(head, memory.parts(code, &words[..n]), file) {
+        if size <= file.len() {
+            save_as(rt, OUT, &file[..size]);
+        }
+    }
 }

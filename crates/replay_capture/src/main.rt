@@ -4,6 +4,7 @@
 #![tactic(auto)]
 
 mod keeping;
+mod memory;
 mod opening;
 mod replaying;
 mod report;
@@ -11,10 +12,9 @@ mod rooms;
 mod running;
 mod saving;
 mod telling;
-mod text;
 
 use files::{PATH_ROOM, argument, fail};
-use opening::replay_file;
+use opening::{Asked, replay_file};
 use std::env::FillError;
 use std::rt::Env;
 
@@ -51,7 +51,7 @@ fn main(rt: HostRuntime) {
     }
     let mut room = [0u8; PATH_ROOM];
     match argument(&rt, 1, &mut room) {
-        Ok(Some(path)) => replay_file(&rt, path, sliced),
+        Ok(Some(path)) => replay_file(&rt, Asked { path, sliced }),
         Ok(None) => {}
         Err(error) => fail(&rt, b"argument 1", &error),
     }

@@ -1,5 +1,5 @@
 // Room for a capture and its words, in two sizes: most captures are small, and don't pay for large rooms. Each `ensures` gives only the
-// length, which lending the array as a slice needs.
+// length, which lending the array as a slice needs: where so large an array itself stands, the check counts through it, and runs out of stack.
 ghost use Rattle.std.specs.Prelude.{◌≡◌, length};
 
 use captures::HEADER_BYTES;
@@ -33,32 +33,16 @@ pub(crate) const LARGE_FILE: usize = HEADER_BYTES
     + 4 * (CODE_ROOM + REGISTER_ROOM + LARGE_DEVICE + LARGE_LOCAL + STATE_ROOM)
     + 1;
 
-pub(crate) fn small_file() -> [u8; SMALL_FILE]
-    ensures { 1640021 ≡ length result }
+// Room for so many bytes. `agree` and `make_day` have the same: a crate for one function would be no plainer.
+pub(crate) fn bytes<const N: usize>() -> [u8; N]
+    ensures { N ≡ length result }
 {
-    [0; SMALL_FILE]
+    [0; N]
 }
 
-pub(crate) fn small_device() -> [u32; SMALL_DEVICE]
-    ensures { 262144 ≡ length result }
+// Room for so many words. One function for both would take the number that fills it, and say its type at each call.
+pub(crate) fn words<const N: usize>() -> [u32; N]
+    ensures { N ≡ length result }
 {
-    [0; SMALL_DEVICE]
-}
-
-pub(crate) fn large_file() -> [u8; LARGE_FILE]
-    ensures { 84215381 ≡ length result }
-{
-    [0; LARGE_FILE]
-}
-
-pub(crate) fn large_device() -> [u32; LARGE_DEVICE]
-    ensures { 16777216 ≡ length result }
-{
-    [0; LARGE_DEVICE]
-}
-
-pub(crate) fn large_local() -> [u32; LARGE_LOCAL]
-    ensures { 4194304 ≡ length result }
-{
-    [0; LARGE_LOCAL]
+    [0; N]
 }

@@ -13,9 +13,10 @@ use Rattle.ground.proofs.Bools.{never}
 use Rattle.ground.proofs.Tests.{false_of}
 use Rattle.lanes.specs.Sets.{widest}
 use Rattle.refusals.specs.declared.Refusal.{Refusal}
-use Rattle.refusals.specs.Table.{Rule, broken}
-use Rattle.blocks.specs.declared.structure.Checked.{Checked}
-use Rattle.blocks.specs.declared.structure.Checked.TheVariants.{Fine}
+use Rattle.refusals.specs.declared.Rule.{Rule}
+use Rattle.refusals.specs.Table.{broken}
+use Rattle.blocks.specs.Scan.{Checked}
+use Rattle.std.specs.Prelude.{Ok, Err}
 use Rattle.blocks.specs.Code.{Code, code_of}
 use Rattle.blocks.specs.Scan.{check_of}
 use Rattle.blocks.proofs.Refusing.{refused_not_fine, same_refusal}
@@ -43,14 +44,14 @@ module _ (s : Settings) (code regs : List ℕ) where
   -- the three tests, by what each told
   abbrev tests : Bool → Bool → Bool → Checked
   tests a b c =
-      then_test (refused_unless a (broken Rule.setting 0))
-      (then_test (refused_unless b (broken Rule.long_code 0)) (refused_unless c (broken Rule.buffer 0)))
+      then_test (refused_unless a (broken Rule.Setting 0))
+      (then_test (refused_unless b (broken Rule.LongCode 0)) (refused_unless c (broken Rule.Buffer 0)))
 
-  bounds_as : (r q : Refusal) → BoundsBreak s code regs q → Checked.Refused q ≡ Checked.Refused r → BoundsBreak s code regs r
+  bounds_as : (r q : Refusal) → BoundsBreak s code regs q → ◌≡◌ {A = Checked} (Err q) (Err r) → BoundsBreak s code regs r
   bounds_as r q b e = subst (BoundsBreak s code regs) (same_refusal q r e) b
 
   bounds_tested : (r : Refusal) (a b c : Bool) → settings_right s ≡ a → leb (length code) most_words ≡ b → eqb (length regs) (s.width * s.registers) ≡ c
-      → tests a b c ≡ Checked.Refused r → BoundsBreak s code regs r
+      → tests a b c ≡ Err r → BoundsBreak s code regs r
   bounds_tested r false b c ea eb ec e = bounds_as r _ (setting (λ x. never (sym ea ∙ allowed_right s x))) e
   bounds_tested r true false c ea eb ec e = bounds_as r _ (code_length (right_allowed s ea) (leb-false _ _ eb)) e
   bounds_tested r true true false ea eb ec e =
@@ -58,24 +59,24 @@ module _ (s : Settings) (code regs : List ℕ) where
   bounds_tested r true true true ea eb ec e = refused_not_fine r (sym e)
 
   bounds_passed : (a b c : Bool) → settings_right s ≡ a → leb (length code) most_words ≡ b → eqb (length regs) (s.width * s.registers) ≡ c
-      → tests a b c ≡ Fine → Bounded s code regs
+      → tests a b c ≡ Ok tt → Bounded s code regs
   bounds_passed false b c ea eb ec e = refused_not_fine _ e
   bounds_passed true false c ea eb ec e = refused_not_fine _ e
   bounds_passed true true false ea eb ec e = refused_not_fine _ e
   bounds_passed true true true ea eb ec e = record { allowed = right_allowed s ea; short = leb-true _ _ eb; buffer = eqb-true _ _ ec }
 
-  bounds_broken : (r : Refusal) → BoundsBreak s code regs r → bounds_test s code regs ≡ Checked.Refused r
+  bounds_broken : (r : Refusal) → BoundsBreak s code regs r → bounds_test s code regs ≡ Err r
   bounds_broken r (setting f) = rw (false_of (settings_right s) (λ e. f (right_allowed s e))) refl
   bounds_broken r (code_length a l) = rw (allowed_right s a, lt-leb _ _ l) refl
   bounds_broken r (buffer_length a l f) = rw (allowed_right s a, le-leb _ _ l, ne_eqb _ _ f) refl
 
-  bounds_if : (r : Refusal) → (bounds_test s code regs ≡ Checked.Refused r) ↔ BoundsBreak s code regs r
+  bounds_if : (r : Refusal) → (bounds_test s code regs ≡ Err r) ↔ BoundsBreak s code regs r
   bounds_if r = (
     bounds_tested r (settings_right s) (leb (length code) most_words) (eqb (length regs) (s.width * s.registers)) refl refl refl,
     bounds_broken r,
   )
 
-  bounded_if : (bounds_test s code regs ≡ Fine) ↔ Bounded s code regs
+  bounded_if : (bounds_test s code regs ≡ Ok tt) ↔ Bounded s code regs
   bounded_if = (
     bounds_passed (settings_right s) (leb (length code) most_words) (eqb (length regs) (s.width * s.registers)) refl refl refl,
     λ b. rw (allowed_right s b.allowed, le-leb _ _ b.short, eq-eqb _ _ b.buffer) refl,
@@ -86,19 +87,19 @@ module _ (s : Settings) (code regs : List ℕ) where
   abbrev kernel : Code
   kernel = code_of code (reading_of s)
 
-  launch_tested : (r : Refusal) (v : Checked) → bounds_test s code regs ≡ v → then_test v (check_of kernel) ≡ Checked.Refused r → LaunchBreaks s code regs r
-  launch_tested r Checked.Fine ev e = in_code (bounded_if.0 ev) ((refused_if code (reading_of s) r).0 e)
-  launch_tested r (Checked.Refused q) ev e = in_bounds ((bounds_if r).0 (ev ∙ e))
+  launch_tested : (r : Refusal) (v : Checked) → bounds_test s code regs ≡ v → then_test v (check_of kernel) ≡ Err r → LaunchBreaks s code regs r
+  launch_tested r (Ok tt) ev e = in_code (bounded_if.0 ev) ((refused_if code (reading_of s) r).0 e)
+  launch_tested r (Err q) ev e = in_bounds ((bounds_if r).0 (ev ∙ e))
 
-  launch_broken : (r : Refusal) → LaunchBreaks s code regs r → launch_test s code regs ≡ Checked.Refused r
+  launch_broken : (r : Refusal) → LaunchBreaks s code regs r → launch_test s code regs ≡ Err r
   launch_broken r (in_bounds b) = rw ((bounds_if r).1 b) refl
   launch_broken r (in_code b x) = ap (λ (v : Checked). then_test v (check_of kernel)) (bounded_if.1 b) ∙ (refused_if code (reading_of s) r).1 x
 
-  launch_if : (r : Refusal) → (launch_test s code regs ≡ Checked.Refused r) ↔ LaunchBreaks s code regs r
+  launch_if : (r : Refusal) → (launch_test s code regs ≡ Err r) ↔ LaunchBreaks s code regs r
   launch_if r = (launch_tested r (bounds_test s code regs) refl, launch_broken r)
 
   -- its tests pass exactly if all is in bounds and the blocks nest
-  pub launch_passes : (launch_test s code regs ≡ Fine) ↔ (Bounded s code regs × Nested code (reading_of s))
+  pub launch_passes : (launch_test s code regs ≡ Ok tt) ↔ (Bounded s code regs × Nested code (reading_of s))
   launch_passes = (
     λ e. (
       bounded_if.0 (then_first (bounds_test s code regs) (check_of kernel) e),
@@ -133,23 +134,23 @@ module _ (s : Settings) (code regs : List ℕ) where
 
     -- whether the state fits, by what the test told
     abbrev state_test_lem : Bool → Checked
-    state_test_lem b = refused_unless b (broken Rule.state 0)
+    state_test_lem b = refused_unless b (broken Rule.State 0)
 
-    resume_tested : (r : Refusal) (v : Checked) (b : Bool) → launch_test s code regs ≡ v → fit ≡ b → then_test v (state_test_lem b) ≡ Checked.Refused r
+    resume_tested : (r : Refusal) (v : Checked) (b : Bool) → launch_test s code regs ≡ v → fit ≡ b → then_test v (state_test_lem b) ≡ Err r
         → ResumeBreaks s state code regs r
-    resume_tested r (Checked.Refused q) b ev eb e = in_launch ((launch_if r).0 (ev ∙ e))
-    resume_tested r Checked.Fine true ev eb e = refused_not_fine r (sym e)
-    resume_tested r Checked.Fine false ev eb e =
+    resume_tested r (Err q) b ev eb e = in_launch ((launch_if r).0 (ev ∙ e))
+    resume_tested r (Ok tt) true ev eb e = refused_not_fine r (sym e)
+    resume_tested r (Ok tt) false ev eb e =
         let q = launch_passes.0 ev in
         subst (ResumeBreaks s state code regs) (same_refusal _ r e) (in_state q.0 q.1 (λ f. never (sym eb ∙ (state_fit_if q.0 q.1).1 f)))
 
-    resume_broken : (r : Refusal) → ResumeBreaks s state code regs r → resume_test s state code regs ≡ Checked.Refused r
+    resume_broken : (r : Refusal) → ResumeBreaks s state code regs r → resume_test s state code regs ≡ Err r
     resume_broken r (in_launch b) = rw ((launch_if r).1 b) refl
     resume_broken r (in_state b w f) =
         ap (λ (v : Checked). then_test v (state_test_lem fit)) (launch_passes.1 (b, w)) ∙ rw (false_of fit (λ e. f ((state_fit_if b w).0 e))) refl
 
     -- the tests of a resume pass exactly if all is in bounds, the blocks nest and the state fits
-    pub resume_passes : (resume_test s state code regs ≡ Fine)
+    pub resume_passes : (resume_test s state code regs ≡ Ok tt)
         ↔ (Bounded s code regs × Nested code (reading_of s) × StateFits code (reading_of s) s.lanes state.hot state.blocks)
     resume_passes = (
       λ e.

@@ -1,5 +1,7 @@
 -- A run of checked code keeps a fitting wave fitting: the instruction that is carried out is the one that the check saw, its lanes are
 -- active ones, and a predicate gains none but these.
+use Rattle.instructions.specs.declared.instr.ControlOp.{ControlOp}
+use Rattle.std.specs.Prelude.{Option, Some, None}
 use mathlib.Core.Path.{◌≡◌, refl, sym, ap, ◌∙◌}
 use mathlib.Core.Bool.{Bool, true, false, cond, ◌||◌}
 use mathlib.Core.List.{List}
@@ -11,17 +13,16 @@ use lib.ListN.{length}
 use Rattle.ground.proofs.Bools.{never}
 use Rattle.lanes.specs.Sets.{bit, first, without}
 use Rattle.lanes.proofs.Members.{joined_le}
-use Rattle.fetching.specs.declared.ControlIn.{ControlIn}
-use Rattle.fetching.specs.declared.Fetched.{Fetched}
+use Rattle.words.specs.declared.reading.Fetched.{Fetched}
 use Rattle.instructions.specs.declared.instr.Instr.{Instr}
 use Rattle.fetching.specs.Fetching.{fetch_at, instr_at, control_in}
 use Rattle.fetching.proofs.Fetches.{fetched, fetch_most}
 use Rattle.blocks.specs.declared.item.Reading.{Reading}
-use Rattle.blocks.specs.declared.structure.Checked.TheVariants.{Fine}
+use Rattle.std.specs.Prelude.{Ok}
 use Rattle.blocks.specs.Item.{item_by, item_of, item_at}
 use Rattle.blocks.specs.Code.{code_of}
 use Rattle.blocks.specs.Scan.{check_of}
-use Rattle.nesting.specs.OpenAt.{Found, nowhere, there, open_at}
+use Rattle.nesting.specs.OpenAt.{Found, open_at}
 use Rattle.nesting.proofs.Instructions.{Instruction, instruction_there}
 use Rattle.lanes.specs.declared.said.Block.{Block}
 use Rattle.wave.specs.Wave.{Wave, Preds}
@@ -58,29 +59,29 @@ inside s code m e =
     (either_false (leb (length code) m.wave.place) (eqb (without (launched_of s) m.wave.halted) 0) e)
 
 -- ---- checked code
-module _ (code : List ℕ) (by : Reading) (checked : check_of (code_of code by) ≡ Fine) (short : length code ≤ most_words) where
+module _ (code : List ℕ) (by : Reading) (checked : check_of (code_of code by) ≡ Ok tt) (short : length code ≤ most_words) where
   fewer : length code < 2 ^ 32
   fewer = omega arith
 
   -- the instruction that is carried out is the one that the check saw
   pub found_instruction : (place : ℕ) (path : List Block) → place < length code → (x : Found) → open_at (code_of code by) place ≡ x
       → OpenThere x path → Instruction code by place
-  found_instruction place path h nowhere e f = absurd f
-  found_instruction place path h (there o) e f = instruction_there code by place checked o e h
+  found_instruction place path h None e f = absurd f
+  found_instruction place path h (Some o) e f = instruction_there code by place checked o e h
 
   pub item_there : (place : ℕ) (path : List Block) → place < length code → OpenThere (open_at (code_of code by) place) path
-      → item_at code by place ≡ item_of (fetch_at code place).instr.op (fetch_at code place).words
+      → item_at code by place ≡ Ok (item_of (fetch_at code place).instr.op (fetch_at code place).words)
   item_there place path h f =
       let i = found_instruction place path h (open_at (code_of code by) place) refl f in
-      i.item_is ∙ ap (λ (x : Fetched). item_of x.instr.op x.words) (sym (fetched code place i.width i.instr i.reads))
+      i.item_is ∙ ap (λ (x : Fetched). Ok (item_of x.instr.op x.words)) (sym (fetched code place i.width i.instr i.reads))
 
   module _ (n all t : ℕ) (w : Wave) (ps qs : Preds) (h : w.place < length code) (lanes : (i : ℕ) → bit t i ≤ bit w.active i)
       (q : PredsFit (first n) qs) (f : WaveFits code by n w ps) where
-    wave_keeps : (c : ControlIn) (words : ℕ) → words ≤ 2 → item_at code by w.place ≡ item_by c words
+    wave_keeps : (c : Option ControlOp) (words : ℕ) → words ≤ 2 → item_at code by w.place ≡ Ok (item_by c words)
         → WaveFits code by n (wave_by c words all t w) qs
-    wave_keeps (ControlIn.Control o) words m i =
+    wave_keeps (Some o) words m i =
         other_preds code by n (control_rule o all t w) ps qs q (control_keeps code by checked fewer w h o n all t ps i lanes f)
-    wave_keeps ControlIn.Other words m i = onward_keeps code by checked fewer w h n words ps qs i (omega arith) q f
+    wave_keeps None words m i = onward_keeps code by checked fewer w h n words ps qs i (omega arith) q f
 
   module _ (s : Settings) (n : ℕ) where
     -- the wave and its predicates fit

@@ -5,9 +5,12 @@ use mathlib.Core.List.{List}
 use Prim.Native.Nat.{ℕ}
 use native.Mathlib.Omega.{arith}
 use lib.ListN.{replicate}
+use Rattle.std.specs.Prelude.{Ok, Err}
 use Rattle.refusals.specs.declared.Refusal.{Refusal}
-use Rattle.blocks.specs.declared.structure.Checked.{Checked}
+use Rattle.blocks.specs.Scan.{Checked}
+use Rattle.lanes.specs.Blocks.{nesting}
 use Rattle.lanes.specs.Sets.{first}
+use Rattle.wave.specs.Layout.{no_block}
 use Rattle.wave.specs.declared.state.State.{State}
 use Rattle.compute.specs.Memory.{Memories, memories}
 use Rattle.stepping.specs.declared.settings.Settings.{Settings}
@@ -39,28 +42,28 @@ module _ (r : Refusal) where
 
   by_test_lem : (v : Checked) (f : Unit {0} → Answered) (state : State) (regs : List ℕ) (y : Memories)
       → ((f tt).outcome ≡ Refused r → ⊥)
-      → ((by_test v f state regs y).outcome ≡ Refused r) ↔ (v ≡ Checked.Refused r)
-  by_test_lem Checked.Fine f state regs y never = (λ e. absurd (never e), λ e. absurd (other_outcome cc))
-  by_test_lem (Checked.Refused q) f state regs y never = (λ e. cc, λ e. cc)
+      → ((by_test v f state regs y).outcome ≡ Refused r) ↔ (v ≡ Err r)
+  by_test_lem (Ok tt) f state regs y never = (λ e. absurd (never e), λ e. absurd (other_outcome cc))
+  by_test_lem (Err q) f state regs y never = (λ e. cc, λ e. cc)
 
   -- a refusal answers zero steps and the state handed in, and leaves the buffers as lent
   by_test_keeps : (v : Checked) (f : Unit {0} → Answered) (state : State) (regs : List ℕ) (y : Memories)
       → ((f tt).outcome ≡ Refused r → ⊥)
       → (by_test v f state regs y).outcome ≡ Refused r → by_test v f state regs y ≡ refused_call r state regs y
-  by_test_keeps Checked.Fine f state regs y never e = absurd (never e)
-  by_test_keeps (Checked.Refused q) f state regs y never e = ap (λ (o : Outcome). refused_with o state regs y) e
+  by_test_keeps (Ok tt) f state regs y never e = absurd (never e)
+  by_test_keeps (Err q) f state regs y never e = ap (λ (o : Outcome). refused_with o state regs y) e
 
   -- THEOREM: a call is refused exactly where its tests refuse, with that refusal
   module _ (s : Settings) (code regs device local : List ℕ) where
     pub launch_refused_if :
-        ((launch_of s code regs device local).outcome ≡ Refused r) ↔ (launch_test s code regs ≡ Checked.Refused r)
+        ((launch_of s code regs device local).outcome ≡ Refused r) ↔ (launch_test s code regs ≡ Err r)
     unfolding launch_of
     launch_refused_if =
         by_test_lem (launch_test s code regs) _ _ _ _ (run_unrefused s code s.budget (launch_machine s regs device local))
 
     pub resume_refused_if : (state : State)
         → ((resume_of s state code regs device local).outcome ≡ Refused r)
-        ↔ (resume_test s state code regs ≡ Checked.Refused r)
+        ↔ (resume_test s state code regs ≡ Err r)
     unfolding resume_of
     resume_refused_if state =
         by_test_lem (resume_test s state code regs) _ _ _ _ (run_unrefused s code s.budget (state_machine state regs device local))
@@ -83,7 +86,7 @@ module _ (r : Refusal) where
 -- what a refused launch returns, number by number
 pub not_launched_lem : not_launched ≡ record {
   hot = record { place = 0; active = 0; halted = 0; p1 = 0; p2 = 0; p3 = 0; depth = 0 };
-  blocks = replicate 192 0;
+  blocks = replicate nesting no_block;
 }
 unfolding first
 not_launched_lem = refl

@@ -13,8 +13,8 @@ use lib.ListN.{length}
 use Rattle.ground.proofs.Tests.{or_cases}
 use Rattle.lanes.specs.Sets.{widest}
 use Rattle.refusals.specs.declared.Refusal.{Refusal}
-use Rattle.blocks.specs.declared.structure.Checked.{Checked}
-use Rattle.blocks.specs.declared.structure.Checked.TheVariants.{Fine}
+use Rattle.blocks.specs.Scan.{Checked}
+use Rattle.std.specs.Prelude.{Ok, Err}
 use Rattle.blocks.specs.Code.{code_of}
 use Rattle.lanes.specs.Blocks.{nesting}
 use Rattle.blocks.specs.Scan.{check_of}
@@ -40,15 +40,15 @@ use Rattle.runs.proofs.Adding.{following, runs_add}
 use Rattle.runs.proofs.Keeping.{run_keeps, run_long}
 
 -- ---- what a test that was passed says
-pub then_first : (v next : Checked) → then_test v next ≡ Fine → v ≡ Fine
-then_first Checked.Fine next e = refl
-then_first (Checked.Refused r) next e = e
+pub then_first : (v next : Checked) → then_test v next ≡ Ok tt → v ≡ Ok tt
+then_first (Ok tt) next e = refl
+then_first (Err r) next e = e
 
-pub then_second : (v next : Checked) → then_test v next ≡ Fine → next ≡ Fine
-then_second Checked.Fine next e = e
-then_second (Checked.Refused r) next e = absurd (let z : ◌≡◌ {A = ℕ} 0 1 = cc in omega arith)
+pub then_second : (v next : Checked) → then_test v next ≡ Ok tt → next ≡ Ok tt
+then_second (Ok tt) next e = e
+then_second (Err r) next e = absurd (let z : ◌≡◌ {A = ℕ} 0 1 = cc in omega arith)
 
-pub unless_true : (ok : Bool) (r : Refusal) → refused_unless ok r ≡ Fine → ok ≡ true
+pub unless_true : (ok : Bool) (r : Refusal) → refused_unless ok r ≡ Ok tt → ok ≡ true
 unless_true true r e = refl
 unless_true false r e = absurd (let z : ◌≡◌ {A = ℕ} 0 1 = cc in omega arith)
 
@@ -60,9 +60,9 @@ pub record Launchable (s : Settings) (code : List ℕ) : Type 0 where
   pub some_lane : leb 1 s.lanes ≡ true
   pub few_lanes : leb s.lanes s.width ≡ true
   pub short : leb (length code) most_words ≡ true
-  pub checked : check_of (code_of code (reading_of s)) ≡ Fine
+  pub checked : check_of (code_of code (reading_of s)) ≡ Ok tt
 
-pub launchable : (s : Settings) (b : ℕ) (code regs : List ℕ) → launch_test (budgeted b s) code regs ≡ Fine → Launchable s code
+pub launchable : (s : Settings) (b : ℕ) (code regs : List ℕ) → launch_test (budgeted b s) code regs ≡ Ok tt → Launchable s code
 launchable s b code regs e =
     let t1 = then_first (bounds_test (budgeted b s) code regs) (check_of (code_of code (reading_of s))) e in
     let rest : Checked = then_test (length_test code) (buffer_test s regs) in
@@ -81,7 +81,7 @@ launchable s b code regs e =
       checked = then_second (bounds_test (budgeted b s) code regs) (check_of (code_of code (reading_of s))) e;
     }
 
-pub right_length : (s : Settings) (code regs : List ℕ) → launch_test s code regs ≡ Fine → length regs ≡ s.width * s.registers
+pub right_length : (s : Settings) (code regs : List ℕ) → launch_test s code regs ≡ Ok tt → length regs ≡ s.width * s.registers
 right_length s code regs e =
     let t1 = then_first (bounds_test s code regs) (check_of (code_of code (reading_of s))) e in
     let rest : Checked = then_test (length_test code) (buffer_test s regs) in
@@ -91,10 +91,10 @@ right_length s code regs e =
 
 -- what the tests of a resume ask: those of a launch, and that the state fits
 pub record Resumable (s : Settings) (state : State) (code regs : List ℕ) : Type 0 where
-  pub launches : launch_test s code regs ≡ Fine
+  pub launches : launch_test s code regs ≡ Ok tt
   pub fits : fits_test code (reading_of s) s.lanes state.hot state.blocks ≡ true
 
-pub resumable : (s : Settings) (state : State) (code regs : List ℕ) → resume_test s state code regs ≡ Fine → Resumable s state code regs
+pub resumable : (s : Settings) (state : State) (code regs : List ℕ) → resume_test s state code regs ≡ Ok tt → Resumable s state code regs
 resumable s state code regs e =
     record {
       launches = then_first (launch_test s code regs) (state_test s state code) e;
@@ -103,7 +103,7 @@ resumable s state code regs e =
           (then_second (launch_test s code regs) (state_test s state code) e);
     }
 
-resumable_passes : (s : Settings) (state : State) (code regs : List ℕ) → Resumable s state code regs → resume_test s state code regs ≡ Fine
+resumable_passes : (s : Settings) (state : State) (code regs : List ℕ) → Resumable s state code regs → resume_test s state code regs ≡ Ok tt
 resumable_passes s state code regs r = rw (r.launches, r.fits)
 
 module _ (s : Settings) (code : List ℕ) (l : Launchable s code) where
@@ -121,7 +121,7 @@ module _ (s : Settings) (code : List ℕ) (l : Launchable s code) where
 
   -- they pass the test with any budget that is allowed and any buffer of the right length
   pub passes : (b : ℕ) (regs : List ℕ) → b ≤ most_steps → length regs ≡ s.width * s.registers
-      → launch_test (budgeted b s) code regs ≡ Fine
+      → launch_test (budgeted b s) code regs ≡ Ok tt
   passes b regs h e =
       rw (
         l.widths,
@@ -156,7 +156,7 @@ module _ (s : Settings) (code : List ℕ) (l : Launchable s code) where
   held_fits m o = state_fits_lem code (reading_of s) s.lanes m.wave m.preds lanes_most o.fits
 
   pub in_order_resumes : (c : ℕ) (m : Machine) → InOrder m → c ≤ most_steps
-      → resume_test (budgeted c s) (state_of m.wave m.preds) code m.regs ≡ Fine
+      → resume_test (budgeted c s) (state_of m.wave m.preds) code m.regs ≡ Ok tt
   in_order_resumes c m o h =
       let x : State = state_of m.wave m.preds in
       resumable_passes (budgeted c s) x code m.regs (record {
@@ -179,46 +179,46 @@ module _ (s : Settings) (code : List ℕ) (l : Launchable s code) where
 
   -- so that it goes on, with any budget that is allowed
   goes_on_from : (b c : ℕ) (m : Machine) → InOrder m → c ≤ most_steps
-      → resume_test (budgeted c s) (ending (run_of s code b m)).state code (ending (run_of s code b m)).regs ≡ Fine
+      → resume_test (budgeted c s) (ending (run_of s code b m)).state code (ending (run_of s code b m)).regs ≡ Ok tt
   goes_on_from b c m o h = in_order_resumes c (run_of s code b m).end (run_in_order b m o) h
 
 -- ---- the answers, once the tests are passed
 module _ (s : Settings) (code regs device local : List ℕ) where
-  pub launched : launch_test s code regs ≡ Fine → launch_of s code regs device local ≡ run_from s code (launch_machine s regs device local)
+  pub launched : launch_test s code regs ≡ Ok tt → launch_of s code regs device local ≡ run_from s code (launch_machine s regs device local)
   unfolding launch_of
   launched e = rw e
 
-  pub resumed : (state : State) → resume_test s state code regs ≡ Fine
+  pub resumed : (state : State) → resume_test s state code regs ≡ Ok tt
       → resume_of s state code regs device local ≡ run_from s code (state_machine state regs device local)
   unfolding resume_of
   resumed state e = rw e
 
   not_refused : (v : Checked) (f : Unit {0} → Answered) (state : State) (y : Memories)
-      → (by_test v f state regs y).outcome ≡ OutOfBudget → v ≡ Fine
-  not_refused Checked.Fine f state y e = refl
-  not_refused (Checked.Refused r) f state y e = absurd (let z : ◌≡◌ {A = ℕ} 0 1 = cc in omega arith)
+      → (by_test v f state regs y).outcome ≡ OutOfBudget → v ≡ Ok tt
+  not_refused (Ok tt) f state y e = refl
+  not_refused (Err r) f state y e = absurd (let z : ◌≡◌ {A = ℕ} 0 1 = cc in omega arith)
 
-  launch_passed : (launch_of s code regs device local).outcome ≡ OutOfBudget → launch_test s code regs ≡ Fine
+  launch_passed : (launch_of s code regs device local).outcome ≡ OutOfBudget → launch_test s code regs ≡ Ok tt
   unfolding launch_of
   launch_passed e = not_refused (launch_test s code regs) _ _ _ e
 
-  resume_passed : (state : State) → (resume_of s state code regs device local).outcome ≡ OutOfBudget → resume_test s state code regs ≡ Fine
+  resume_passed : (state : State) → (resume_of s state code regs device local).outcome ≡ OutOfBudget → resume_test s state code regs ≡ Ok tt
   unfolding resume_of
   resume_passed state e = not_refused (resume_test s state code regs) _ _ _ e
 
 -- ---- WHAT A CALL ANSWERS can be handed in again: it is not refused
 module _ (s : Settings) (code regs device local : List ℕ) (c : ℕ) (most : c ≤ most_steps) where
   abbrev Resumes : Answered → Type 0
-  Resumes x = resume_test (budgeted c s) x.state code x.regs ≡ Fine
+  Resumes x = resume_test (budgeted c s) x.state code x.regs ≡ Ok tt
 
-  pub launch_returns : launch_test s code regs ≡ Fine → Resumes (launch_of s code regs device local)
+  pub launch_returns : launch_test s code regs ≡ Ok tt → Resumes (launch_of s code regs device local)
   launch_returns e =
       let l = launchable s s.budget code regs e in
       let o = launch_in_order s code l regs device local (right_length s code regs e) in
       subst Resumes (sym (launched s code regs device local e))
       (goes_on_from s code l s.budget c (launch_machine s regs device local) o most)
 
-  pub resume_returns : (state : State) → resume_test s state code regs ≡ Fine → Resumes (resume_of s state code regs device local)
+  pub resume_returns : (state : State) → resume_test s state code regs ≡ Ok tt → Resumes (resume_of s state code regs device local)
   resume_returns state e =
       let q = resumable s state code regs e in
       let l = launchable s s.budget code regs q.launches in

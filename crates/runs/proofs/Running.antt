@@ -1,5 +1,7 @@
 -- A call that breaks no rule of the page's table runs; and wherever its run comes by without having ended, an instruction stands at the place,
 -- and is carried out by the page's rules and by no way out that the definitions have.
+use Rattle.refusals.specs.declared.Refusal.{Refusal}
+use Rattle.std.specs.Prelude.{Result, Ok, Err}
 use Prim.Native.Nat.{ℕ, ◌*◌, ◌≤◌, ◌<◌, ◌^◌}
 use native.Mathlib.Nat.{min-eq_left, mod-eq_of_lt}
 use native.Mathlib.Omega.{arith}
@@ -12,13 +14,12 @@ use Rattle.ground.proofs.Bools.{never}
 use Rattle.lanes.specs.Sets.{widest}
 use Rattle.instructions.specs.declared.instr.Op.{Op}
 use Rattle.instructions.specs.declared.instr.Instr.{Instr}
-use Rattle.fetching.specs.declared.Fetched.{Fetched}
-use Rattle.words.specs.declared.reading.ReadAnswer.{ReadAnswer}
-use Rattle.words.specs.Layout.{words_of}
-use Rattle.fetching.specs.Fetching.{counted}
+use Rattle.words.specs.declared.reading.Fetched.{Fetched}
+use Rattle.words.specs.Layout.{words_of, counted}
 use Rattle.words.proofs.Standing.{stood, read_span}
 use Rattle.fetching.proofs.Fetches.{fetched}
 use Rattle.blocks.specs.Code.{code_of}
+use Rattle.std.specs.Prelude.{Ok}
 use Rattle.blocks.specs.Item.{item_of}
 use Rattle.nesting.specs.OpenAt.{open_at}
 use Rattle.nesting.specs.Nesting.{Nested}
@@ -78,7 +79,7 @@ module _ (s : Settings) (code : List ℕ) (l : Launchable s code) where
       record {
         instr = x;
         stands = w.0;
-        reads = i.reads ∙ ap (ReadAnswer.Read x) w.1;
+        reads = i.reads ∙ ap (λ (n : ℕ). Ok (counted x n)) w.1;
         carried = f ∙ ap (counted x) w.1;
         next = mod-eq_of_lt (omega (arith, read_span code at x i.width i.reads, w.1, short));
         below = λ p. never (sym ((past_if s.registers x).1 p) ∙ i.below);
@@ -87,7 +88,7 @@ module _ (s : Settings) (code : List ℕ) (l : Launchable s code) where
         ready =
             λ c ec.
             ready_there code (reading_of s) l.checked few m.wave h c s.lanes m.preds
-            (i.item_is ∙ ap (λ (op : Op). item_of op i.width) ec) o.fits;
+            (i.item_is ∙ ap (λ (op : Op). Ok (item_of op i.width)) ec) o.fits;
         deep = path_room code (reading_of s) s.lanes m.wave m.preds o.fits;
         lanes = min-eq_left (lanes_most s code l);
       }

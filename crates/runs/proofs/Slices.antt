@@ -8,9 +8,10 @@ use native.Mathlib.Nat.{add_assoc, add-zero}
 use native.Mathlib.Omega.{arith}
 use borrow.Author.Tests.{le-leb}
 use lib.Dec.{leb}
+use Rattle.std.specs.Prelude.{Ok, Err}
 use Rattle.ground.proofs.Bools.{never}
 use Rattle.ground.proofs.Tests.{true_or_false}
-use Rattle.blocks.specs.declared.structure.Checked.{Checked}
+use Rattle.blocks.specs.Scan.{Checked}
 use Rattle.wave.specs.declared.state.State.{State}
 use Rattle.compute.specs.Memory.{Memories, memories}
 use Rattle.stepping.specs.declared.settings.Settings.{Settings}
@@ -29,8 +30,8 @@ use Rattle.runs.specs.Starting.{start_of, stopped, gone_on, finished}
 module _ (s : Settings) (code : List ℕ) where
   tested_most : (v : Checked) (b : ℕ) (m : Machine) (state : State) (regs : List ℕ) (y : Memories)
       → (by_test v (λ (u : Unit {0}). ending (run_of s code b m)) state regs y).steps ≤ b
-  tested_most Checked.Fine b m state regs y = steps_most s code b m
-  tested_most (Checked.Refused r) b m state regs y = omega arith
+  tested_most (Ok tt) b m state regs y = steps_most s code b m
+  tested_most (Err r) b m state regs y = omega arith
 
   resume_most : (state : State) (regs device local : List ℕ) → (resume_of s state code regs device local).steps ≤ s.budget
   unfolding resume_of
@@ -82,8 +83,8 @@ module _ (s : Settings) (code : List ℕ) (a b : ℕ) (most : a + b ≤ most_ste
   -- a call that wasn't stopped
   tested_settled : (v w : Checked) → v ≡ w → (m : Machine) (state : State) (regs : List ℕ) (y : Memories)
       → stopped (tested a w m state regs y).outcome ≡ false → tested (a + b) v m state regs y ≡ tested a w m state regs y
-  tested_settled v Checked.Fine e m state regs y h = rw e (ap ending (run_settled m h))
-  tested_settled v (Checked.Refused r) e m state regs y h = rw e
+  tested_settled v (Ok tt) e m state regs y h = rw e (ap ending (run_settled m h))
+  tested_settled v (Err r) e m state regs y h = rw e
 
 module _ (s : Settings) (code : List ℕ) (state : State) (regs device local : List ℕ) where
   -- what is answered with a budget of k

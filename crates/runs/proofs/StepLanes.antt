@@ -1,4 +1,6 @@
 -- What a step leaves, lane by lane and word by word, where it is in shape and no lane faults.
+use Rattle.instructions.specs.declared.instr.ControlOp.{ControlOp}
+use Rattle.std.specs.Prelude.{Option, Some, None}
 use Prim.Native.Nat.{ℕ, zero, suc, ◌≤◌, ◌<◌}
 use native.Mathlib.Omega.{arith}
 use mathlib.Core.Path.{◌≡◌, refl, sym, ap, ◌∙◌}
@@ -12,8 +14,7 @@ use Rattle.instructions.specs.declared.instr.Op.{Op}
 use Rattle.instructions.specs.declared.instr.Space.{Space}
 use Rattle.instructions.specs.declared.instr.Instr.{Instr}
 use Rattle.instructions.specs.Forms.{limits_of, guard_fits, second_fits, fits, valid}
-use Rattle.fetching.specs.declared.ControlIn.{ControlIn}
-use Rattle.fetching.specs.declared.Fetched.{Fetched}
+use Rattle.words.specs.declared.reading.Fetched.{Fetched}
 use Rattle.fetching.specs.Fetching.{control_in}
 use Rattle.fetching.proofs.Fetches.{control_is}
 use Rattle.wave.specs.Wave.{Preds}
@@ -82,10 +83,10 @@ module _ (s : Settings) (f : Fetched) (m : Machine) where
   shape = shape_of s
 
   -- where no lane faults, the lanes' work doesn't: that of a control instruction never does
-  work_clear : (c : ControlIn) → control_in x.op ≡ c → clear (faults_by c (launched_of s) m.wave (computed s x t m).faults) ≡ true
+  work_clear : (c : Option ControlOp) → control_in x.op ≡ c → clear (faults_by c (launched_of s) m.wave (computed s x t m).faults) ≡ true
       → clear (computed s x t m).faults ≡ true
-  work_clear (ControlIn.Control o) e h = ap (λ (y : Outcome). clear y.faults) (control shape x t lent o (control_is x.op o e))
-  work_clear ControlIn.Other e h = h
+  work_clear (Some o) e h = ap (λ (y : Outcome). clear y.faults) (control shape x t lent o (control_is x.op o e))
+  work_clear None e h = h
 
   module _ (unfaulted : clear (step_of s f m).faults ≡ true) where
     goes : (step_of s f m).end ≡ carried_by s f t m

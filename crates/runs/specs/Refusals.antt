@@ -2,7 +2,8 @@
 -- of the lines before it are kept.
 use Rattle.std.specs.Prelude.{ℕ, ◌*◌, ◌≤◌, ◌<◌, ◌≡◌, ◌⊎◌, List, length}
 use Rattle.refusals.specs.declared.Refusal.{Refusal}
-use Rattle.refusals.specs.Table.{Rule, broken}
+use Rattle.refusals.specs.declared.Rule.{Rule}
+use Rattle.refusals.specs.Table.{broken}
 use Rattle.nesting.specs.Nesting.{Nested, Broken}
 use Rattle.wave.specs.declared.state.State.{State}
 use Rattle.fits.specs.Opens.{StateFits}
@@ -24,10 +25,10 @@ pub record Bounded (s : Settings) (code regs : List ℕ) : Type 0 where
 
 -- 1 a setting, 2 code too long, 3 register buffer length
 pub data BoundsBreak (s : Settings) (code regs : List ℕ) : Refusal → Type 0 where
-  setting : (Allowed s → ⊥) → BoundsBreak s code regs (broken Rule.setting 0)
-  code_length : Allowed s → most_words < length code → BoundsBreak s code regs (broken Rule.long_code 0)
+  setting : (Allowed s → ⊥) → BoundsBreak s code regs (broken Rule.Setting 0)
+  code_length : Allowed s → most_words < length code → BoundsBreak s code regs (broken Rule.LongCode 0)
   buffer_length : Allowed s → length code ≤ most_words → (length regs ≡ s.width * s.registers → ⊥)
-      → BoundsBreak s code regs (broken Rule.buffer 0)
+      → BoundsBreak s code regs (broken Rule.Buffer 0)
 
 -- a launch: then 4 to 10, in the code
 pub data LaunchBreaks (s : Settings) (code regs : List ℕ) : Refusal → Type 0 where
@@ -38,4 +39,4 @@ pub data LaunchBreaks (s : Settings) (code regs : List ℕ) : Refusal → Type 0
 pub data ResumeBreaks (s : Settings) (state : State) (code regs : List ℕ) : Refusal → Type 0 where
   in_launch : {r : Refusal} → LaunchBreaks s code regs r → ResumeBreaks s state code regs r
   in_state : Bounded s code regs → Nested code (reading_of s)
-      → (StateFits code (reading_of s) s.lanes state.hot state.blocks → ⊥) → ResumeBreaks s state code regs (broken Rule.state 0)
+      → (StateFits code (reading_of s) s.lanes state.hot state.blocks → ⊥) → ResumeBreaks s state code regs (broken Rule.State 0)

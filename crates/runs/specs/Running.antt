@@ -1,16 +1,17 @@
 -- The machines that a run comes by, and what stands at the place of one that has not ended. The definitions of a step are total: they have an
 -- answer too where no instruction stands at the place, where a register is not in the buffer, where there is no block to close or no room for
 -- one. `Instructed` says that none of these is the case.
-use Rattle.std.specs.Prelude.{ℕ, ◌+◌, ◌≤◌, ◌≡◌, true, false, List, length}
+use Rattle.refusals.specs.declared.Refusal.{Refusal}
+use Rattle.words.specs.declared.reading.Fetched.{Fetched}
+use Rattle.std.specs.Prelude.{ℕ, ◌+◌, ◌≤◌, ◌≡◌, true, false, List, length, Result, Ok, Err}
 use Rattle.lanes.specs.Blocks.{nesting}
 use Rattle.instructions.specs.declared.instr.ControlOp.{ControlOp}
 use Rattle.instructions.specs.declared.instr.Op.{Op}
 use Rattle.instructions.specs.declared.instr.Instr.{Instr}
-use Rattle.words.specs.declared.reading.ReadAnswer.{ReadAnswer}
-use Rattle.words.specs.Layout.{words_of}
+use Rattle.words.specs.Layout.{words_of, counted}
 use Rattle.words.specs.Reading.{read_at}
 use Rattle.words.specs.Rules.{Stands}
-use Rattle.fetching.specs.Fetching.{counted, fetch_at}
+use Rattle.fetching.specs.Fetching.{fetch_at}
 use Rattle.instructions.specs.Registers.{Past}
 use Rattle.wave.specs.Going.{on_by}
 use Rattle.control.specs.Ready.{Ready}
@@ -36,7 +37,7 @@ pub record Instructed (s : Settings) (code : List ℕ) (m : Machine) : Type 0 wh
   -- the place is an instruction's first word: reading gives this instruction, and the step carries it out
   pub instr : Instr
   pub stands : Stands code m.wave.place instr
-  pub reads : read_at code m.wave.place ≡ ReadAnswer.Read instr (length (words_of instr))
+  pub reads : read_at code m.wave.place ≡ Ok (counted instr (length (words_of instr)))
   pub carried : fetch_at code m.wave.place ≡ counted instr (length (words_of instr))
   -- the place after it is a number of 32 bits
   pub next : on_by (length (words_of instr)) m.wave.place ≡ m.wave.place + length (words_of instr)

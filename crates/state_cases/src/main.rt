@@ -5,11 +5,13 @@
 
 ghost use Rattle.std.specs.Prelude.{◌≤◌, ◌+◌};
 
-use blocks::item::Reading;
+use blocks::item::{Code, Reading};
 use fits::fits;
-use refusals::STATE;
-use wave::state::{Hot, PATH_NUMBERS};
+use lanes::said::{Block, DEEPEST};
+use refusals::Rule;
+use wave::state::{BLOCK_NUMBERS, Hot, NO_BLOCK, State};
 
+// Read and written by `io`, which stands on two calls of the system, where std's streams bring 37.
 const STDIN_FILENO: i32 = 0;
 
 const STDOUT_FILENO: i32 = 1;
@@ -28,7 +30,8 @@ const SETTINGS: usize = 3;
 // The hot numbers.
 const HOT: usize = 7;
 
-// A line so far: its numbers, how many they are, and the number that is being read.
+// A line so far: its numbers, how many they are, and the number that is being read. Without a heap the numbers stand in an array, with their
+// count beside it.
 #[derive(Clone, Copy)]
 struct Line {
     numbers: [u32; SPACE],
@@ -36,7 +39,7 @@ struct Line {
     number: u32,
 }
 
-// What a hexadecimal digit stands for.
+// What a hexadecimal digit stands for. `block_cases` has the same: a crate for one function would be no plainer.
 fn digit(letter: u8) -> u32 {
     if letter <= b'9' {
         (letter % 16) as u32
@@ -77,30 +80,48 @@ fn hot_at(numbers: &[u32; SPACE], at: usize) -> Hot
     }
 }
 
-// The numbers of the open blocks, which begin at a place of the line.
-fn blocks_at(numbers: &[u32; SPACE], at: usize) -> [u32; PATH_NUMBERS]
+// The block whose numbers begin at a place of the line.
+fn block_at(numbers: &[u32; SPACE], at: usize) -> Block
+    requires { at + 6 ≤ 512 }
+{
+    Block {
+        part: numbers[at],
+        opener: numbers[at + 1],
+        entered: numbers[at + 2],
+        aside: numbers[at + 3],
+        again: numbers[at + 4],
+        left: numbers[at + 5],
+    }
+}
+
+// The open blocks, whose numbers begin at a place of the line.
+fn blocks_at(numbers: &[u32; SPACE], at: usize) -> [Block; DEEPEST]
     requires { at ≤ 320 }
 {
-    let mut bl = [0u32; PATH_NUMBERS];
-    let mut i: usize = 0;
-    while i < PATH_NUMBERS {
-        bl[i] = numbers[at + i];
-        i += 1;
+    let mut blocks = [NO_BLOCK; DEEPEST];
+    for (k, block) in blocks.iter_mut().enumerate() {
+        *block = block_at(numbers, at + BLOCK_NUMBERS * k);
     }
-    bl
+    blocks
 }
 
 // Whether the state of a case fits its code.
 fn answer(numbers: [u32; SPACE]) -> bool {
-    let reading = Reading {
-        registers: numbers[0],
-    };
     let n = numbers[1];
     let words = numbers[2] % WORDS;
     let start = SETTINGS + words as usize;
-    let hot = hot_at(&numbers, start);
-    let bl = blocks_at(&numbers, start + HOT);
-    fits(&numbers[SETTINGS..start], reading, n, hot, &bl)
+    let reading = Reading {
+        registers: numbers[0],
+    };
+    let code = Code {
+        words: &numbers[SETTINGS..start],
+        reading,
+    };
+    let state = State {
+        hot: hot_at(&numbers, start),
+        blocks: blocks_at(&numbers, start + HOT),
+    };
+    fits(&code, n, &state)
 }
 
 // Writes the line of a case.
@@ -109,7 +130,7 @@ fn report(line: Line) {
     if answer(numbers) {
         io::write_all(STDOUT_FILENO, b"fits\n");
     } else {
-        io::print_decimal(STDOUT_FILENO, STATE as u64);
+        io::print_decimal(STDOUT_FILENO, Rule::State.number() as u64);
         io::write_all(STDOUT_FILENO, b"\n");
     }
 }
@@ -127,14 +148,11 @@ fn main() {
     let mut text = io::large_buffer();
     let given = io::read_full(STDIN_FILENO, &mut text);
     let mut line = empty_line();
-    let mut at: usize = 0;
-    while at < given {
-        let letter = text[at];
-        line = with_letter(line, letter);
-        if letter == b'\n' {
+    for letter in &text[..given] {
+        line = with_letter(line, *letter);
+        if *letter == b'\n' {
             report(line);
             line = empty_line();
         }
-        at += 1;
     }
 }

@@ -1,5 +1,6 @@
 -- The faults that a step gives: an instruction faults by its lanes' work, or at a barrier, where nothing else faults; and the lanes of each
 -- kind are active.
+use Rattle.std.specs.Prelude.{Option, Some, None}
 use mathlib.Core.Bool.{Bool, true, false, cond}
 use mathlib.Core.List.{[], ◌∷◌}
 use Prim.Native.Nat.{ℕ, ◌≤◌}
@@ -9,8 +10,7 @@ use Rattle.lanes.proofs.Bits.{bit_zero}
 use Rattle.lanes.proofs.Members.{has_le}
 use Rattle.instructions.specs.declared.instr.ControlOp.{ControlOp}
 use Rattle.instructions.specs.declared.instr.ControlOp.TheVariants.{If, Else, Endif, Loop, Break, Continue, Endloop, Halt, Barrier, Nop}
-use Rattle.fetching.specs.declared.ControlIn.{ControlIn}
-use Rattle.fetching.specs.declared.Fetched.{Fetched}
+use Rattle.words.specs.declared.reading.Fetched.{Fetched}
 use Rattle.fetching.specs.Fetching.{control_in}
 use Rattle.wave.specs.Wave.{Wave}
 use Rattle.control.specs.Rules.{barred}
@@ -34,18 +34,18 @@ pub data Faulty (f : Faults) : Type 0 where
   at_barrier : Only (5 ∷ []) f → Faulty f
 
 module _ (s : Settings) (x : Fetched) (m : Machine) where
-  faulty_by : (c : ControlIn) → Faulty (faults_by c (launched_of s) m.wave (computed s x.instr (lanes_of x.instr m) m).faults)
-  faulty_by (ControlIn.Control o) = at_barrier (barrier_only (fault_lanes o (launched_of s) m.wave))
-  faulty_by ControlIn.Other = at_work (fault_form (shape_of s) x.instr (lanes_of x.instr m) (lent_to_lem x.instr m))
+  faulty_by : (c : Option ControlOp) → Faulty (faults_by c (launched_of s) m.wave (computed s x.instr (lanes_of x.instr m) m).faults)
+  faulty_by (Some o) = at_barrier (barrier_only (fault_lanes o (launched_of s) m.wave))
+  faulty_by None = at_work (fault_form (shape_of s) x.instr (lanes_of x.instr m) (lent_to_lem x.instr m))
 
   pub step_faulty : Faulty (step_of s x m).faults
   unfolding step_of
   step_faulty = faulty_by (control_in x.instr.op)
 
   -- no lane is of two kinds
-  apart_of : (c : ControlIn) → Apart (faults_by c (launched_of s) m.wave (computed s x.instr (lanes_of x.instr m) m).faults)
-  apart_of (ControlIn.Control o) = barrier_apart (fault_lanes o (launched_of s) m.wave)
-  apart_of ControlIn.Other = fault_apart (shape_of s) x.instr (lanes_of x.instr m) (lent_to_lem x.instr m)
+  apart_of : (c : Option ControlOp) → Apart (faults_by c (launched_of s) m.wave (computed s x.instr (lanes_of x.instr m) m).faults)
+  apart_of (Some o) = barrier_apart (fault_lanes o (launched_of s) m.wave)
+  apart_of None = fault_apart (shape_of s) x.instr (lanes_of x.instr m) (lent_to_lem x.instr m)
 
   pub step_apart : Apart (step_of s x m).faults
   unfolding step_of
@@ -78,11 +78,11 @@ control_active Barrier all w = active_or_none (barred all w) w.active
 control_active Nop all w = none_active w.active
 
 module _ (s : Settings) (x : Fetched) (m : Machine) where
-  lanes_in_lem : (c : ControlIn) (k : ℕ) → Lanes m.wave.active (lanes_of_kind k (faults_by c (launched_of s) m.wave (computed s x.instr (lanes_of x.instr m) m).faults))
-  lanes_in_lem (ControlIn.Control o) k =
+  lanes_in_lem : (c : Option ControlOp) (k : ℕ) → Lanes m.wave.active (lanes_of_kind k (faults_by c (launched_of s) m.wave (computed s x.instr (lanes_of x.instr m) m).faults))
+  lanes_in_lem (Some o) k =
       barrier_lanes_lem (Lanes m.wave.active) (fault_lanes o (launched_of s) m.wave) (control_active o (launched_of s) m.wave)
       (none_active m.wave.active) k
-  lanes_in_lem ControlIn.Other k =
+  lanes_in_lem None k =
       λ i.
       omega (
         arith,

@@ -8,7 +8,7 @@ use native.Mathlib.Nat.{zero-add, add_assoc}
 use native.Mathlib.Omega.{arith}
 use Rattle.ground.proofs.Tests.{true_or_false}
 use Rattle.faulting.specs.Kinds.{clear}
-use Rattle.fetching.specs.declared.Fetched.{Fetched}
+use Rattle.words.specs.declared.reading.Fetched.{Fetched}
 use Rattle.stepping.specs.declared.settings.Settings.{Settings}
 use Rattle.stepping.specs.declared.answers.Outcome.{Outcome}
 use Rattle.stepping.specs.declared.answers.Outcome.TheVariants.{Ended, OutOfBudget, Fault}

@@ -7,7 +7,7 @@ use native.Mathlib.Omega.{arith}
 use native.Mathlib.Nat.{add-zero}
 use lib.ListN.{length}
 use Rattle.faulting.specs.Kinds.{clear}
-use Rattle.fetching.specs.declared.Fetched.{Fetched}
+use Rattle.words.specs.declared.reading.Fetched.{Fetched}
 use Rattle.fetching.specs.Fetching.{fetch_at}
 use Rattle.stepping.specs.declared.settings.Settings.{Settings}
 use Rattle.stepping.specs.declared.answers.Outcome.{Outcome}
@@ -51,6 +51,12 @@ pub record Turn (s : Settings) (code : List ℕ) (budget n : ℕ) (m₀ : Machin
   pub steps : x ≡ step_of s fetched machine
   pub same : SameLengths x.end machine
 
+pub turn : {s : Settings} {code : List ℕ} {budget n : ℕ} {m₀ m : Machine} {f : Fetched} {x : Stepped} → Going s code budget n m₀ m
+    → ended_of s code m ≡ false → (n ≡ budget → ⊥) → f ≡ fetch_at code m.wave.place → x ≡ step_of s f m → SameLengths x.end m
+    → Turn s code budget n m₀ x
+turn going unended unspent reads steps same =
+    record { machine = _; going = going; unended = unended; unspent = unspent; fetched = _; reads = reads; steps = steps; same = same }
+
 -- ---- the ways out of the loop, and round
 module _ {s : Settings} {code : List ℕ} {budget n : ℕ} {m₀ m : Machine} (g : Going s code budget n m₀ m) where
   pub ends : ended_of s code m ≡ true → done Ended n m ≡ run_of s code budget m₀
@@ -68,10 +74,10 @@ module _ {s : Settings} {code : List ℕ} {budget n : ℕ} {m₀ : Machine} {x :
   made : x ≡ step_at s code from
   made = t.steps ∙ ap (λ (f : Fetched). step_of s f from) t.reads
 
-  pub below : n < budget
+  below : n < budget
   below = omega (arith, t.unspent, t.going.fewer)
 
-  pub still_long : SameLengths x.end m₀
+  still_long : SameLengths x.end m₀
   still_long =
       let was = t.going.long in
       record { regs = t.same.regs ∙ was.regs; device = t.same.device ∙ was.device; local = t.same.local ∙ was.local }

@@ -1,5 +1,6 @@
 -- The whole machine that a step changes: the wave, its predicates, the registers and the two memories.
 use Rattle.std.specs.Prelude.{ℕ, cond, List, eqb}
+use Rattle.lanes.specs.declared.said.Block.{Block}
 use Rattle.wave.specs.declared.state.Hot.{Hot}
 use Rattle.compute.specs.Memory.{Memories}
 use Rattle.wave.specs.Wave.{Wave, Preds, wave_of, preds_of}
@@ -10,8 +11,8 @@ pub record Machine : Type 0 where
   pub regs : List ℕ
   pub memories : Memories
 
--- the machine that the code holds in a few numbers and four lent buffers
-abbrev pub machine_of : Hot → List ℕ → List ℕ → List ℕ → List ℕ → Machine
+-- the machine that the code holds in a few numbers, the lent blocks and three lent buffers
+abbrev pub machine_of : Hot → List Block → List ℕ → List ℕ → List ℕ → Machine
 machine_of h path regs device local =
     record { wave = wave_of h path; preds = preds_of h; regs = regs; memories = record { device = device; local = local } }
 

@@ -1,5 +1,6 @@
 -- A run: steps until it has ended, some lane faults, or no budget is left. What follows a test is computed only where it is taken.
 use Rattle.std.specs.Prelude.{ℕ, zero, suc, ◌+◌, Bool, true, false, ◌||◌, not, List, length, eqb, leb}
+use Rattle.lanes.specs.declared.said.Block.{Block}
 use Rattle.lanes.specs.Sets.{without}
 use Rattle.fetching.specs.Fetching.{fetch_at}
 use Rattle.faulting.specs.Kinds.{clear}
@@ -51,5 +52,5 @@ run_of s code (suc b) m =
     (λ (u : Unit {0}). onward (step_at s code m) m (λ (v : Unit {0}). run_of s code b (step_at s code m).end))
 
 -- the answer of the code, with the buffers as it leaves them
-abbrev pub gone : Stopped → List ℕ → List ℕ → List ℕ → List ℕ → Ran
+abbrev pub gone : Stopped → List Block → List ℕ → List ℕ → List ℕ → Ran
 gone a path regs device local = record { outcome = a.outcome; steps = a.steps; end = machine_of a.hot path regs device local }

@@ -8,10 +8,10 @@ ghost use Rattle.stepping.specs.Answer.{answered, run_from, state_machine};
 use crate::answers::{Outcome, Replayed};
 use crate::settings::Settings;
 use crate::step::step;
-use faulting::faults::is_clear;
 use fetching::fetch_at;
+use lanes::said::{Block, DEEPEST};
 use lanes::{first, without};
-use wave::state::{Hot, PATH_NUMBERS, State, tidy};
+use wave::state::{Hot, State, tidy};
 
 // Where a run stopped: its outcome, its steps and the hot numbers.
 #[derive(Clone, Copy)]
@@ -29,12 +29,12 @@ fn has_ended(settings: Settings, words: usize, h: Hot) -> bool
     (words <= h.place as usize) | (running == 0)
 }
 
-// Steps from the machine on. What stands past the open blocks is as the steps leave it.
+// Steps from the machine on. What stands past the open blocks is as the steps leave it. The buffers stay parameters, as in a step.
 fn go(
     settings: Settings,
     h: Hot,
     code: &[u32],
-    blocks: &mut [u32; PATH_NUMBERS],
+    blocks: &mut [Block; DEEPEST],
     regs: &mut [u32],
     device: &mut [u32],
     local: &mut [u32],
@@ -46,6 +46,7 @@ fn go(
     let budget = settings.budget;
     let mut hot = h;
     let mut steps: u32 = 0;
+    // A `loop`, since the end is told before the budget: a `for` over the budget would ask for the end in two places.
     loop {
         if has_ended(settings, code.len(), hot) {
             return Stopped {
@@ -62,17 +63,16 @@ fn go(
             };
         }
         let x = fetch_at(code, hot.place as usize);
-        let a = step(x, settings, hot, blocks, regs, device, local);
-        let faults = a.faults;
-        let next = a.hot;
-        if !is_clear(faults) {
-            return Stopped {
-                outcome: Outcome::Fault(faults),
-                steps,
-                hot: next,
-            };
+        match step(x, settings, hot, blocks, regs, device, local) {
+            Ok(next) => hot = next,
+            Err(faults) => {
+                return Stopped {
+                    outcome: Outcome::Fault(faults),
+                    steps,
+                    hot,
+                };
+            }
         }
-        hot = next;
         steps += 1;
     }
 }

@@ -1,57 +1,50 @@
 // One step of the wave: an instruction carried out by the executing lanes.
-ghost use Rattle.std.specs.Prelude.{◌≡◌, cond, List, ℕ};
+ghost use Rattle.std.specs.Prelude.{◌≡◌, false, List, IfErr};
+ghost use Rattle.faulting.specs.Kinds.{clear};
+ghost use Rattle.lanes.specs.declared.said.Block.{Block};
 ghost use Rattle.wave.specs.Wave.{preds_of};
-ghost use Rattle.stepping.specs.Machine.{machine_of, named, preds, with_named, hot_with};
+ghost use Rattle.stepping.specs.Machine.{machine_of, named, with_named, hot_with};
 ghost use Rattle.stepping.specs.Step.{registers_in, ordinary_of, stepped, step_of};
 
 use crate::settings::Settings;
 use compute::{Shape, carry_out};
 use control::control;
 use faulting::faults::{Faults, is_clear, of_barrier};
-use fetching::{ControlIn, Fetched, control_in};
+use fetching::control_in;
+use lanes::said::{Block, DEEPEST};
 use lanes::{Lanes, first};
 use wave::going::onward_by;
 use wave::guarding::executing;
-use wave::state::{Hot, PATH_NUMBERS, whole};
+use wave::state::Hot;
+use words::reading::Fetched;
 
-// After a step: the faults, and the hot numbers.
-#[derive(Clone, Copy)]
-pub struct StepAnswer {
-    pub faults: Faults,
-    pub hot: Hot,
-}
-
-// The set of predicate `k` of three; none where there is no such predicate.
-fn named_set(k: u8, p1: Lanes, p2: Lanes, p3: Lanes) -> Lanes
-    ensures { result ≡ named k (preds p1 p2 p3) }
+// The set of predicate `k`, 0 where there is none. No Option: an instruction's lanes are given a set whatever RD names, and give it back.
+fn named_set(k: u8, h: Hot) -> Lanes
+    ensures { result ≡ named k (preds_of h) }
 {
     match k {
-        1 => p1,
-        2 => p2,
-        3 => p3,
+        1 => h.p1,
+        2 => h.p2,
+        3 => h.p3,
         _ => 0,
     }
-}
-
-// A predicate's set afterwards: `set` where the predicate is the one that is named.
-fn set_after(picked: bool, set: Lanes, old: Lanes) -> Lanes
-    ensures { result ≡ cond picked set old }
-{
-    if picked { set } else { old }
 }
 
 // The hot numbers, with `set` for predicate `k`.
 fn with_named(k: u8, set: Lanes, h: Hot) -> Hot
     ensures { result ≡ hot_with h (with_named k set (preds_of h)) }
 {
-    let mut n = h;
-    n.p1 = set_after(k == 1, set, h.p1);
-    n.p2 = set_after(k == 2, set, h.p2);
-    n.p3 = set_after(k == 3, set, h.p3);
-    n
+    match k {
+        1 => Hot { p1: set, ..h },
+        2 => Hot { p2: set, ..h },
+        3 => Hot { p3: set, ..h },
+        _ => h,
+    }
 }
 
-// An instruction that is no control instruction, by the lanes t: on by its words, or where some lane faults, as before it.
+// An instruction that is no control instruction, by the lanes t: the hot numbers on by its words, or the faults, and nothing changed. Here
+// and in a run the lent buffers stay parameters: a struct that holds a `&mut` owes in each contract, for each, that it holds the same one
+// still.
 fn ordinary(
     x: Fetched,
     t: Lanes,
@@ -60,10 +53,11 @@ fn ordinary(
     regs: &mut [u32],
     device: &mut [u32],
     local: &mut [u32],
-) -> StepAnswer
-    ensures { (blocks : List ℕ) →
-        stepped result blocks (registers_in settings regs.new) device.new local.new
+) -> Result<Hot, Faults>
+    ensures machine { (blocks : List Block) →
+        stepped h result blocks (registers_in settings regs.new) device.new local.new
         ≡ ordinary_of settings x t (machine_of h blocks (registers_in settings regs.old) device.old local.old) }
+    ensures faults { IfErr result (λ faults. clear faults ≡ false) }
 {
     let instr = x.instr;
     let rd = instr.rd;
@@ -71,43 +65,43 @@ fn ordinary(
         width: settings.width,
         registers: settings.registers,
     };
-    let predicate = named_set(rd, h.p1, h.p2, h.p3);
+    let predicate = named_set(rd, h);
     let c = carry_out(instr, t, predicate, shape, regs, device, local);
-    let faults = c.faults;
-    if is_clear(faults) {
+    if is_clear(c.faults) {
         let n = onward_by(x.words, h);
-        let hot = with_named(rd, c.predicate, n);
-        return StepAnswer { faults, hot };
+        return Ok(with_named(rd, c.predicate, n));
     }
-    StepAnswer { faults, hot: h }
+    Err(c.faults)
 }
 
-// One step. The machine afterwards is what `step_of` says; a fault leaves it as it was.
+// One step: the hot numbers after it, or the faults. The machine afterwards is what `step_of` says; a fault leaves it as it was.
 pub(crate) fn step(
     x: Fetched,
     settings: Settings,
     h: Hot,
-    blocks: &mut [u32; PATH_NUMBERS],
+    blocks: &mut [Block; DEEPEST],
     regs: &mut [u32],
     device: &mut [u32],
     local: &mut [u32],
-) -> StepAnswer
-    ensures { stepped result blocks.new (registers_in settings regs.new) device.new local.new
+) -> Result<Hot, Faults>
+    ensures machine { stepped h result blocks.new (registers_in settings regs.new) device.new local.new
         ≡ step_of settings x (machine_of h blocks.old (registers_in settings regs.old) device.old local.old) }
+    ensures faults { IfErr result (λ faults. clear faults ≡ false) }
 {
     let instr = x.instr;
     let guard = instr.guard;
     let op = instr.op;
     let t = executing(guard, h);
-    let kind = control_in(op);
-    match kind {
-        ControlIn::Control(o) => {
-            whole(blocks);
+    match control_in(op) {
+        Some(o) => {
             let a = control(o, t, first(settings.lanes), h, blocks);
-            let hot = a.hot;
             let faults = of_barrier(a.barrier);
-            StepAnswer { faults, hot }
+            if is_clear(faults) {
+                Ok(a.hot)
+            } else {
+                Err(faults)
+            }
         }
-        ControlIn::Other => ordinary(x, t, settings, h, regs, device, local),
+        None => ordinary(x, t, settings, h, regs, device, local),
     }
 }

@@ -1,8 +1,8 @@
 -- The lines that the second program's description shows, each read as its instruction; the longest; and lines that are read as none.
+use Rattle.std.specs.Prelude.{Option, Some, None}
 use mathlib.Core.Path.{◌≡◌, refl}
 use mathlib.Core.Bool.{true, false}
 use mathlib.Core.List.{List, [], ◌∷◌}
-use mathlib.Core.Option.{Option, none, some}
 use Prim.Native.Nat.{ℕ}
 use Prim.Native.String.{String}
 use lib.ListN.{length}
@@ -33,21 +33,21 @@ shown_lines :
     ∷ "LOAD r1, [r2 + 8]" ∷ "STORE [r2 + 8], r1" ∷ "ATOMIC_ADD r1, [r2], r3" ∷ "REDUCE_ADD r1, r0" ∷ "SHUFFLE r1, r0, r2" ∷ "BALLOT r1, r0 on p1"
     ∷ "IF on not p1" ∷ "BREAK on p1" ∷ "ADD r3, r1, r2 on p2" ∷ []
     )
-    ≡ some (instr (Op.Two TwoOp.Add) (guarded 0 false) 3 1 2 0 0 0)
-    ∷ some (instr (Op.Compare CompareOp.Lt) (guarded 0 false) 1 0 1 0 0 0)
-    ∷ some (instr (Op.One OneOp.Neg) (guarded 0 false) 1 2 0 0 0 0)
-    ∷ some (instr Op.Special (guarded 0 false) 0 0 0 0 0 0)
-    ∷ some (instr Op.Number (guarded 0 false) 0 0 0 0 0 5)
-    ∷ some (instr Op.Cas (guarded 0 false) 1 2 3 4 2 0)
-    ∷ some (instr (Op.Load Space.Device) (guarded 0 false) 1 2 0 0 0 8)
-    ∷ some (instr (Op.Store Space.Device) (guarded 0 false) 1 2 0 0 0 8)
-    ∷ some (instr (Op.Atomic AtomicOp.Add) (guarded 0 false) 1 2 3 0 0 0)
-    ∷ some (instr (Op.Wave WaveOp.ReduceAdd) (guarded 0 false) 1 0 0 0 0 0)
-    ∷ some (instr Op.Shuffle (guarded 0 false) 1 0 2 0 0 0)
-    ∷ some (instr (Op.Wave WaveOp.Ballot) (guarded 1 false) 1 0 0 0 0 0)
-    ∷ some (instr (Op.Control ControlOp.If) (guarded 1 true) 0 0 0 0 0 0)
-    ∷ some (instr (Op.Control ControlOp.Break) (guarded 1 false) 0 0 0 0 0 0)
-    ∷ some (instr (Op.Two TwoOp.Add) (guarded 2 false) 3 1 2 0 0 0)
+    ≡ Some (instr (Op.Two TwoOp.Add) (guarded 0 false) 3 1 2 0 0 0)
+    ∷ Some (instr (Op.Compare CompareOp.Lt) (guarded 0 false) 1 0 1 0 0 0)
+    ∷ Some (instr (Op.One OneOp.Neg) (guarded 0 false) 1 2 0 0 0 0)
+    ∷ Some (instr Op.Special (guarded 0 false) 0 0 0 0 0 0)
+    ∷ Some (instr Op.Number (guarded 0 false) 0 0 0 0 0 5)
+    ∷ Some (instr Op.Cas (guarded 0 false) 1 2 3 4 2 0)
+    ∷ Some (instr (Op.Load Space.Device) (guarded 0 false) 1 2 0 0 0 8)
+    ∷ Some (instr (Op.Store Space.Device) (guarded 0 false) 1 2 0 0 0 8)
+    ∷ Some (instr (Op.Atomic AtomicOp.Add) (guarded 0 false) 1 2 3 0 0 0)
+    ∷ Some (instr (Op.Wave WaveOp.ReduceAdd) (guarded 0 false) 1 0 0 0 0 0)
+    ∷ Some (instr Op.Shuffle (guarded 0 false) 1 0 2 0 0 0)
+    ∷ Some (instr (Op.Wave WaveOp.Ballot) (guarded 1 false) 1 0 0 0 0 0)
+    ∷ Some (instr (Op.Control ControlOp.If) (guarded 1 true) 0 0 0 0 0 0)
+    ∷ Some (instr (Op.Control ControlOp.Break) (guarded 1 false) 0 0 0 0 0 0)
+    ∷ Some (instr (Op.Two TwoOp.Add) (guarded 2 false) 3 1 2 0 0 0)
     ∷ []
 unfolding word rest operands numeral digits places behind number_in tail_in fields_in if_text same_list
 shown_lines = refl
@@ -55,8 +55,8 @@ shown_lines = refl
 -- the largest decimal number, and the smallest hexadecimal one
 numbers :
     readings ("LOCAL_LOAD r1, [r2 + 9999999]" ∷ "LOCAL_LOAD r1, [r2 + 0x00989680]" ∷ [])
-    ≡ some (instr (Op.Load Space.Local) (guarded 0 false) 1 2 0 0 0 9999999)
-    ∷ some (instr (Op.Load Space.Local) (guarded 0 false) 1 2 0 0 0 10000000)
+    ≡ Some (instr (Op.Load Space.Local) (guarded 0 false) 1 2 0 0 0 9999999)
+    ∷ Some (instr (Op.Load Space.Local) (guarded 0 false) 1 2 0 0 0 10000000)
     ∷ []
 unfolding word rest operands numeral digits places behind number_in tail_in fields_in if_text same_list
 numbers = refl
@@ -65,7 +65,7 @@ numbers = refl
 longest_line : List ℕ
 longest_line = ascii "ATOMIC_UMAX r255, [r255], r255 scope 3 on not p3"
 
-longest : instr_of longest_line ≡ some (instr (Op.Atomic AtomicOp.Umax) (guarded 3 true) 255 255 255 0 3 0)
+longest : instr_of longest_line ≡ Some (instr (Op.Atomic AtomicOp.Umax) (guarded 3 true) 255 255 255 0 3 0)
 unfolding longest_line word rest operands numeral digits places behind number_in tail_in fields_in if_text same_list
 longest = refl
 
@@ -79,15 +79,15 @@ no_lines :
     "HOP r1, r2" ∷ "NEG r1, r2, r3" ∷ "NEG r01, r2" ∷ "MOV_IMM r0, 0xfffffffF" ∷ "MOV_IMM r0, 0x00000005" ∷ "NEG r1,  r2" ∷ "CAS r1, [r2], r3, r4 scope 0"
     ∷ "ELSE on p1" ∷ "NEG r256, r2" ∷ "" ∷ []
     )
-    ≡ none ∷ none ∷ none ∷ none ∷ none ∷ none ∷ none ∷ none ∷ none ∷ none ∷ []
+    ≡ None ∷ None ∷ None ∷ None ∷ None ∷ None ∷ None ∷ None ∷ None ∷ None ∷ []
 unfolding word rest operands numeral digits places behind number_in tail_in fields_in if_text same_list
 no_lines = refl
 
 -- a line as words, and words as a line
-to_words : line_words (ascii "STORE [r2 + 8], r5 on not p1") ≡ some (0x31050205 ∷ 8 ∷ [])
+to_words : line_words (ascii "STORE [r2 + 8], r5 on not p1") ≡ Some (0x31050205 ∷ 8 ∷ [])
 unfolding word rest operands numeral digits places behind number_in tail_in fields_in if_text same_list
 to_words = refl
 
-to_line : line_at (0x3FF0 ∷ 0x31050205 ∷ 8 ∷ []) 1 ≡ some (ascii "STORE [r2 + 8], r5 on not p1")
+to_line : line_at (0x3FF0 ∷ 0x31050205 ∷ 8 ∷ []) 1 ≡ Some (ascii "STORE [r2 + 8], r5 on not p1")
 unfolding operands numeral digits places
 to_line = refl

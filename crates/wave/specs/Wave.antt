@@ -21,7 +21,7 @@ pub record Preds : Type 0 where
   pub p3 : ℕ
 
 -- the wave of the numbers: a depth over 32 is read as 32, and what stands past the open blocks is not read
-abbrev pub wave_of : Hot → List ℕ → Wave
+abbrev pub wave_of : Hot → List Block → Wave
 wave_of h xs =
     record { place = h.place; active = h.active; halted = h.halted; path = opened xs (min h.depth nesting) }
 
@@ -41,7 +41,7 @@ hot_of w ps =
       depth = length w.path;
     }
 
--- the state that holds a wave, zero past its open blocks; and the wave of a state
+-- the state that holds a wave, zeros past its open blocks; and the wave of a state
 abbrev pub state_of : Wave → Preds → State
 state_of w ps = record { hot = hot_of w ps; blocks = array_of w.path }
 
@@ -58,19 +58,19 @@ clear = record { p1 = 0; p2 = 0; p3 = 0 }
 -- what the code holds: the hot numbers, and the lent array
 pub record Held : Type 0 where
   pub hot : Hot
-  pub blocks : List ℕ
+  pub blocks : List Block
 
-abbrev pub held : Hot → List ℕ → Held
+abbrev pub held : Hot → List Block → Held
 held h xs = record { hot = h; blocks = xs }
 
--- the same wave in numbers that it alone decides, zero past its open blocks
-abbrev pub tidied : Hot → List ℕ → Held
+-- the same wave in numbers that it alone decides, zeros past its open blocks
+abbrev pub tidied : Hot → List Block → Held
 tidied h xs = held (hot_of (wave_of h xs) (preds_of h)) (array_of (wave_of h xs).path)
 
 -- what a rule makes of it: the wave after the rule with the same predicates, its path laid over the array
-abbrev pub after : (Wave → Wave) → Hot → List ℕ → Held
+abbrev pub after : (Wave → Wave) → Hot → List Block → Held
 after f h xs = held (hot_of (f (wave_of h xs)) (preds_of h)) (over (f (wave_of h xs)).path xs)
 
 -- the promise of a rule's function, which was lent xs and leaves ys
-abbrev pub Does : (Wave → Wave) → Hot → List ℕ → Hot → List ℕ → Type 0
+abbrev pub Does : (Wave → Wave) → Hot → List Block → Hot → List Block → Type 0
 Does f h xs r ys = held r ys ≡ after f h xs

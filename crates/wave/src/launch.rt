@@ -3,8 +3,9 @@ ghost use Rattle.std.specs.Prelude.{◌≡◌, min};
 ghost use Rattle.lanes.specs.Sets.{widest};
 ghost use Rattle.wave.specs.Wave.{state_of, launch, clear};
 
-use crate::state::{Hot, PATH_NUMBERS, State};
+use crate::state::{Hot, NO_BLOCK, State};
 use lanes::first;
+use lanes::said::DEEPEST;
 
 // Place 0, the lanes 0 to `n` - 1 active (every lane where `n` is larger than the widest wave), no lane halted, no predicate, no block.
 pub fn launched(n: u32) -> State
@@ -21,7 +22,7 @@ pub fn launched(n: u32) -> State
     };
     State {
         hot,
-        blocks: [0; PATH_NUMBERS],
+        blocks: [NO_BLOCK; DEEPEST],
     }
 }
 

@@ -1,27 +1,23 @@
-// The state of a wave: the hot numbers by value, and the open blocks in one array, outermost first, six numbers each in the key's order.
-ghost use Rattle.std.specs.Prelude.{◌≡◌, min, length};
+// The state of a wave: the hot numbers by value, and the open blocks in one array, outermost first.
+ghost use Rattle.std.specs.Prelude.{◌≡◌, min};
 ghost use Rattle.lanes.specs.Blocks.{nesting};
-ghost use Rattle.wave.specs.Layout.{path_numbers};
 ghost use Rattle.wave.specs.Wave.{held, tidied};
 
 use lanes::Lanes;
-use lanes::said::{DEEPEST, NESTING};
+use lanes::said::{Block, DEEPEST, NESTING};
 
-// An open block is six numbers: its part, and then these.
+// How many numbers a block is.
 pub const BLOCK_NUMBERS: usize = 6;
 
-pub const OPENER: usize = 1;
-
-pub const ENTERED: usize = 2;
-
-pub const ASIDE: usize = 3;
-
-pub const AGAIN: usize = 4;
-
-pub const LEFT: usize = 5;
-
-// The numbers of as many blocks as there is room for.
-pub const PATH_NUMBERS: usize = BLOCK_NUMBERS * DEEPEST;
+// What stands where no block is open.
+pub const NO_BLOCK: Block = Block {
+    part: 0,
+    opener: 0,
+    entered: 0,
+    aside: 0,
+    again: 0,
+    left: 0,
+};
 
 // The numbers that nearly every step reads or writes. `depth` is how many blocks are open.
 #[derive(Clone, Copy)]
@@ -35,45 +31,27 @@ pub struct Hot {
     pub depth: u32,
 }
 
-// A wave's whole state. The numbers of `blocks` past the open blocks do not count.
+// A wave's whole state. What stands in `blocks` past the open blocks does not count: nothing allocates, so their count stands beside them. A block's part stays a number: any state may be handed
+// in to `resume`, which refuses what does not fit, so a type of three parts would ask more of callers.
 #[derive(Clone, Copy)]
 pub struct State {
     pub hot: Hot,
-    pub blocks: [u32; PATH_NUMBERS],
+    pub blocks: [Block; DEEPEST],
 }
 
 // A depth over 32 is read as 32.
 pub fn depth_of(depth: u32) -> u32
     ensures { result ≡ min depth nesting }
 {
-    if depth < NESTING { depth } else { NESTING }
+    depth.min(NESTING)
 }
 
-// How many numbers were lent.
-fn len_of(words: &[u32]) -> usize
-    ensures { result ≡ length words.now }
-{
-    words.len()
-}
-
-// Does nothing where it runs: it tells its caller's proof how long the array of open blocks is.
-pub fn whole(blocks: &[u32; PATH_NUMBERS])
-    ensures { length blocks.now ≡ path_numbers }
-{
-    len_of(blocks);
-}
-
-// The numbers past the open blocks become zero, and a depth over 32 becomes 32, so that every number of the state is fixed by its wave.
-pub fn tidy(h: Hot, blocks: &mut [u32; PATH_NUMBERS]) -> Hot
+// The blocks past the open ones become zeros, and a depth over 32 becomes 32, so that every number of the state is fixed by its wave.
+pub fn tidy(h: Hot, blocks: &mut [Block; DEEPEST]) -> Hot
     ensures { held result blocks.new ≡ tidied h blocks.old }
 {
-    whole(blocks);
     let d = depth_of(h.depth);
-    let mut k = BLOCK_NUMBERS * (d as usize);
-    while k < PATH_NUMBERS {
-        blocks[k] = 0;
-        k += 1;
-    }
+    blocks[d as usize..].fill(NO_BLOCK);
     let mut n = h;
     n.depth = d;
     n

@@ -1,5 +1,6 @@
 -- What is written reads back: the words of a valid instruction, whatever stands after them, read as that instruction. Word 0 gives its fields
 -- back; word 1 by its three forms, never by operation.
+use Rattle.std.specs.Prelude.{Ok}
 use mathlib.Core.Path.{◌≡◌, refl, sym}
 use mathlib.Core.Bool.{Bool, true, false, cond, ◌&&◌}
 use mathlib.Core.List.{List, ◌++◌}
@@ -13,10 +14,9 @@ use Rattle.instructions.specs.declared.instr.Op.{Op}
 use Rattle.instructions.specs.declared.instr.Guard.{Guard}
 use Rattle.instructions.specs.declared.instr.Instr.{Instr}
 use Rattle.instructions.specs.declared.forms.Second.{Second}
-use Rattle.words.specs.declared.reading.ReadAnswer.{ReadAnswer}
 use Rattle.opcodes.specs.Table.{opcode_of, modifier_of}
 use Rattle.instructions.specs.Forms.{limits_of, size_of, second_fits, valid}
-use Rattle.words.specs.Layout.{guard_in, first_word, instr, instr_in, rest_of, second_spare, spare_zero, words_of, opcode_in, rd_in, rs1_in, modifier_in, bit3_in}
+use Rattle.words.specs.Layout.{guard_in, first_word, instr, instr_in, rest_of, second_spare, spare_zero, words_of, opcode_in, rd_in, rs1_in, modifier_in, bit3_in, counted}
 use Rattle.words.specs.Reading.{read_from}
 use Rattle.opcodes.proofs.Rows.{table}
 use Rattle.words.proofs.Sizes.{words_length}
@@ -105,7 +105,7 @@ instr_back (Second.Registers x y z) i w after f fit small =
           (sym (rs3_back i.rs2 i.rs3 i.scope r.1 r.2)) (sym (scope_back i.rs2 i.rs3 i.scope r.1 r.2)) r.3,
     )
 
-pub read_written : (i : Instr) → valid i ≡ true → (after : List ℕ) (at : ℕ) → read_from (words_of i ++ after) at ≡ ReadAnswer.Read i (length (words_of i))
+pub read_written : (i : Instr) → valid i ≡ true → (after : List ℕ) (at : ℕ) → read_from (words_of i ++ after) at ≡ Ok (counted i (length (words_of i)))
 read_written i ok after at =
     let l = limits_of i.op in
     let w = first_word i in

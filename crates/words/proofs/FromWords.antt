@@ -1,5 +1,7 @@
 -- What is read was written: where words read as an instruction, it is valid and they are its words. The reading is followed test by test; the
 -- words are made of the fields read from them, word 1 by its three forms.
+use Rattle.words.specs.declared.reading.Fetched.{Fetched}
+use Rattle.std.specs.Prelude.{Option, Some, None, Result, Ok, Err}
 use mathlib.Core.Path.{◌≡◌, refl, sym, ◌∙◌, ap}
 use mathlib.Core.Bool.{Bool, true, false, cond, ◌&&◌}
 use mathlib.Core.List.{List, [], ◌∷◌, ◌++◌}
@@ -11,14 +13,12 @@ use borrow.Author.Tests.{eqb-true, eqb-false, ltb-false}
 use Rattle.ground.proofs.Bools.{and_left, and_right}
 use Rattle.instructions.specs.declared.instr.Op.{Op}
 use Rattle.instructions.specs.declared.instr.Instr.{Instr}
-use Rattle.opcodes.specs.declared.table.FoundOp.{FoundOp}
 use Rattle.instructions.specs.declared.forms.Second.{Second}
-use Rattle.words.specs.declared.reading.ReadAnswer.{ReadAnswer}
 use Rattle.opcodes.specs.Table.{opcode_of, modifier_of, op_of}
 use Rattle.instructions.specs.Forms.{limits_of, size_of, fits, valid}
-use Rattle.words.specs.Layout.{first_word, instr_in, rest_of, second_spare, spare_zero, words_of, opcode_in, modifier_in, bit3_in, negate_in, rs4_in, spare_in}
+use Rattle.words.specs.Layout.{first_word, instr_in, rest_of, second_spare, spare_zero, words_of, opcode_in, modifier_in, bit3_in, negate_in, rs4_in, spare_in, counted}
 use Rattle.refusals.specs.declared.Refusal.{Refusal}
-use Rattle.refusals.specs.Table.{Rule}
+use Rattle.refusals.specs.declared.Rule.{Rule}
 use Rattle.words.specs.Reading.{refused, read_fields, read_op, read_from}
 use Rattle.opcodes.proofs.Lookup.{op_opcode, op_modifier}
 use Rattle.words.proofs.Sizes.{words_length}
@@ -64,14 +64,18 @@ rest_kept (Second.Registers x y t) o w (v ∷ r) h z =
     let unused : spare_in v ≡ 0 = eqb-true _ 0 (and_right (eqb (rs4_in v) 0) (eqb (spare_in v) 0) z) in
     rw (whole_pair v rs4 unused)
 
+-- what two answers that are alike say
+pub said_once : {a b : Fetched} {E : Type 0} → ◌≡◌ {A = Result Fetched E} (Ok a) (Ok b) → a ≡ b
+said_once e = cc
+
 -- two answers that are not alike
-unread : {A : Type 0} (i : Instr) (n : ℕ) (r : Refusal) → ReadAnswer.Refused r ≡ ReadAnswer.Read i n → A
+unread : {A : Type 0} (i : Instr) (n : ℕ) (r : Refusal) → Err r ≡ Ok (counted i n) → A
 unread i n r e = absurd (let z : ◌≡◌ {A = ℕ} 0 1 = cc in omega arith)
 
 module _ (i : Instr) (n at : ℕ) where
   -- all tests passed
   passed :
-      (o : Op) (w : ℕ) (r : List ℕ) → op_of (opcode_in w) (modifier_in w) ≡ FoundOp.Carried o → size_of (limits_of o).second ≤ suc (length r) →
+      (o : Op) (w : ℕ) (r : List ℕ) → op_of (opcode_in w) (modifier_in w) ≡ Some o → size_of (limits_of o).second ≤ suc (length r) →
       (spare_zero (limits_of o).second w (get_or r 0 0) && fits (limits_of o) (instr_in (limits_of o).second o w (get_or r 0 0))) ≡ true →
       instr_in (limits_of o).second o w (get_or r 0 0) ≡ i → size_of (limits_of o).second ≡ n → Starts (w ∷ r) i n
   passed o w r named room t ei en =
@@ -92,25 +96,27 @@ module _ (i : Instr) (n at : ℕ) where
         count = sym en ∙ ap (λ (q : Op). size_of (limits_of q).second) (sym (op_kept s o w v) ∙ ap (λ (j : Instr). j.op) ei) ∙ sym (words_length i);
       }
 
-  pub read_back : (ws : List ℕ) → read_from ws at ≡ ReadAnswer.Read i n → Starts ws i n
+  pub read_back : (ws : List ℕ) → read_from ws at ≡ Ok (counted i n) → Starts ws i n
   read_back [] e = unread i n _ e
   read_back (w ∷ r) e = looked (op_of (opcode_in w) (modifier_in w)) refl e
     where
       tested :
-          (o : Op) → op_of (opcode_in w) (modifier_in w) ≡ FoundOp.Carried o → size_of (limits_of o).second ≤ suc (length r) → (b : Bool) →
+          (o : Op) → op_of (opcode_in w) (modifier_in w) ≡ Some o → size_of (limits_of o).second ≤ suc (length r) → (b : Bool) →
           (spare_zero (limits_of o).second w (get_or r 0 0) && fits (limits_of o) (instr_in (limits_of o).second o w (get_or r 0 0))) ≡ b →
-          cond b (ReadAnswer.Read (instr_in (limits_of o).second o w (get_or r 0 0)) (size_of (limits_of o).second)) (refused Rule.field at)
-          ≡ ReadAnswer.Read i n → Starts (w ∷ r) i n
-      tested o named room true t e = passed o w r named room t (cc) (cc)
+          cond b (Ok (counted (instr_in (limits_of o).second o w (get_or r 0 0)) (size_of (limits_of o).second))) (refused Rule.Field at)
+          ≡ Ok (counted i n) → Starts (w ∷ r) i n
+      tested o named room true t e =
+          let same = said_once e in
+          passed o w r named room t (ap (λ (f : Fetched). f.instr) same) (ap (λ (f : Fetched). f.words) same)
       tested o named room false t e = unread i n _ e
 
-      counted :
-          (o : Op) → op_of (opcode_in w) (modifier_in w) ≡ FoundOp.Carried o → (b : Bool) → ltb (suc (length r)) (size_of (limits_of o).second) ≡ b →
-          cond b (refused Rule.no_second at) (read_fields o (limits_of o) w (get_or r 0 0) at) ≡ ReadAnswer.Read i n → Starts (w ∷ r) i n
-      counted o named true h e = unread i n _ e
-      counted o named false h e = tested o named (ltb-false _ _ h) _ refl e
+      sized :
+          (o : Op) → op_of (opcode_in w) (modifier_in w) ≡ Some o → (b : Bool) → ltb (suc (length r)) (size_of (limits_of o).second) ≡ b →
+          cond b (refused Rule.NoSecond at) (read_fields o (limits_of o) w (get_or r 0 0) at) ≡ Ok (counted i n) → Starts (w ∷ r) i n
+      sized o named true h e = unread i n _ e
+      sized o named false h e = tested o named (ltb-false _ _ h) _ refl e
 
       looked :
-          (found : FoundOp) → op_of (opcode_in w) (modifier_in w) ≡ found → read_op found w r at ≡ ReadAnswer.Read i n → Starts (w ∷ r) i n
-      looked FoundOp.Missing h e = unread i n _ e
-      looked (FoundOp.Carried o) h e = counted o h _ refl e
+          (found : Option Op) → op_of (opcode_in w) (modifier_in w) ≡ found → read_op found w r at ≡ Ok (counted i n) → Starts (w ∷ r) i n
+      looked None h e = unread i n _ e
+      looked (Some o) h e = sized o h _ refl e

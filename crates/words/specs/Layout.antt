@@ -4,6 +4,7 @@ use Rattle.instructions.specs.declared.instr.Op.{Op}
 use Rattle.instructions.specs.declared.instr.Guard.{Guard}
 use Rattle.instructions.specs.declared.instr.Instr.{Instr}
 use Rattle.instructions.specs.declared.forms.Second.{Second}
+use Rattle.words.specs.declared.reading.Fetched.{Fetched}
 use Rattle.opcodes.specs.Table.{opcode_of, modifier_of}
 use Rattle.instructions.specs.Forms.{limits_of}
 
@@ -53,6 +54,10 @@ scope_in v = v % 2 ^ 2
 abbrev pub instr : Op → Guard → ℕ → ℕ → ℕ → ℕ → ℕ → ℕ → Instr
 instr op guard rd rs1 rs2 rs3 scope number =
     record { op = op; guard = guard; rd = rd; rs1 = rs1; rs2 = rs2; rs3 = rs3; scope = scope; number = number }
+
+-- an instruction of so many words
+abbrev pub counted : Instr → ℕ → Fetched
+counted i n = record { instr = i; words = n }
 
 -- negate and predicate
 abbrev pub guard_in : ℕ → Guard

@@ -2,7 +2,8 @@
 -- the first that is broken there. Page 01's table of refusals, 4 to 6, with no test.
 use Rattle.std.specs.Prelude.{◌≡◌, true, List, ℕ, ◌≤◌, ◌<◌, ◌+◌, length, get_or, take, drop}
 use Rattle.refusals.specs.declared.Refusal.{Refusal}
-use Rattle.refusals.specs.Table.{Rule, broken}
+use Rattle.refusals.specs.declared.Rule.{Rule}
+use Rattle.refusals.specs.Table.{broken}
 use Rattle.instructions.specs.declared.instr.Op.{Op}
 use Rattle.instructions.specs.declared.instr.Instr.{Instr}
 use Rattle.instructions.specs.declared.forms.Need.{Need}
@@ -48,11 +49,11 @@ pub record Allowed (l : Limits) (w v : ℕ) : Type 0 where
 -- the first rule that the words at a place break, there
 pub data Breaks (ws : List ℕ) (at : ℕ) : Refusal → Type 0 where
   -- a word that names no operation
-  no_operation : at < length ws → ((o : Op) → Names ws at o → ⊥) → Breaks ws at (broken Rule.not_carried at)
+  no_operation : at < length ws → ((o : Op) → Names ws at o → ⊥) → Breaks ws at (broken Rule.NotCarried at)
   -- no word at all
-  no_word : length ws ≤ at → Breaks ws at (broken Rule.no_second at)
+  no_word : length ws ≤ at → Breaks ws at (broken Rule.NoSecond at)
   -- the word names an operation that has more words than there are
-  few_words : (o : Op) → at < length ws → Names ws at o → length ws < at + size o → Breaks ws at (broken Rule.no_second at)
+  few_words : (o : Op) → at < length ws → Names ws at o → length ws < at + size o → Breaks ws at (broken Rule.NoSecond at)
   -- the words of an operation are there, and not all is allowed that their fields have
   wrong_field : (o : Op) → Names ws at o → at + size o ≤ length ws → (Allowed (limits_of o) (get_or ws at 0) (get_or ws (at + 1) 0) → ⊥)
-      → Breaks ws at (broken Rule.field at)
+      → Breaks ws at (broken Rule.Field at)

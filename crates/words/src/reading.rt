@@ -5,14 +5,14 @@ ghost use Rattle.words.specs.Reading.{read_fields, read_at};
 
 use instructions::forms::{Limits, Second, fits, limits_of, size_of};
 use instructions::instr::{Guard, Instr, Op};
-use opcodes::table::{FoundOp, op_of};
-use refusals::{FIELD, NO_SECOND, NOT_CARRIED, Refusal};
+use opcodes::table::op_of;
+use refusals::{Refusal, Rule, broken};
 
-// An instruction and how many words it has; or a refusal.
+// An instruction, and how many words it has.
 #[derive(Clone, Copy)]
-pub enum ReadAnswer {
-    Read { instr: Instr, words: usize },
-    Refused(Refusal),
+pub struct Fetched {
+    pub instr: Instr,
+    pub words: u32,
 }
 
 // The word at a place, 0 past the end.
@@ -37,14 +37,14 @@ fn headed(op: Op, first: u32, rs2: u8, rs3: u8, scope: u8, number: u32) -> Instr
     ensures { result ≡ headed op first rs2 rs3 scope number }
 {
     Instr {
-        op: op,
+        op,
         guard: guard_in(first),
         rd: (first / 0x10000 % 256) as u8,
         rs1: (first / 0x100 % 256) as u8,
-        rs2: rs2,
-        rs3: rs3,
-        scope: scope,
-        number: number,
+        rs2,
+        rs3,
+        scope,
+        number,
     }
 }
 
@@ -55,7 +55,7 @@ pub fn instr_in(second: Second, op: Op, first: u32, word: u32) -> Instr
     match second {
         Second::Nothing => headed(op, first, 0, 0, 0, 0),
         Second::Number => headed(op, first, 0, 0, 0, word),
-        Second::Registers(_, _, _) => {
+        Second::Registers(..) => {
             let rs2 = (word / 0x1000000) as u8;
             let rs3 = (word / 0x10000 % 256) as u8;
             let scope = (word % 4) as u8;
@@ -71,7 +71,7 @@ fn second_spare(second: Second, word: u32) -> bool
     match second {
         Second::Nothing => true,
         Second::Number => true,
-        Second::Registers(_, _, _) => (word / 0x100 % 256 == 0) & (word / 4 % 64 == 0),
+        Second::Registers(..) => (word / 0x100 % 256 == 0) & (word / 4 % 64 == 0),
     }
 }
 
@@ -83,57 +83,42 @@ fn spare_zero(second: Second, first: u32, word: u32) -> bool
 }
 
 // What the words of an operation with these limits say, or a refusal at `at`.
-fn read_fields(op: Op, limits: Limits, first: u32, word: u32, at: usize) -> ReadAnswer
+fn read_fields(op: Op, limits: Limits, first: u32, word: u32, at: usize) -> Result<Fetched, Refusal>
     ensures { result ≡ read_fields op limits first word at }
 {
     let second = limits.second;
     let instr = instr_in(second, op, first, word);
-    let size = size_of(second);
     if spare_zero(second, first, word) & fits(limits, instr) {
-        ReadAnswer::Read {
-            instr: instr,
-            words: size,
-        }
-    } else {
-        ReadAnswer::Refused(Refusal {
-            number: FIELD,
-            place: at,
+        Ok(Fetched {
+            instr,
+            words: size_of(second) as u32,
         })
+    } else {
+        Err(broken(Rule::Field, at))
     }
 }
 
 // The instruction whose first word stands at `at`. A refusal's place is `at`; a place past the words is refused as a missing word.
-pub fn read_at(words: &[u32], at: usize) -> ReadAnswer
+pub fn read_at(words: &[u32], at: usize) -> Result<Fetched, Refusal>
     ensures { result ≡ read_at words.now at }
 {
     if words.len() <= at {
-        return ReadAnswer::Refused(Refusal {
-            number: NO_SECOND,
-            place: at,
-        });
+        return Err(broken(Rule::NoSecond, at));
     }
     let first = words[at];
-    let found = op_of(first / 0x1000000, first / 16 % 16);
-    let FoundOp::Carried(op) = found else {
-        return ReadAnswer::Refused(Refusal {
-            number: NOT_CARRIED,
-            place: at,
-        });
+    let Some(op) = op_of(first / 0x1000000, first / 16 % 16) else {
+        return Err(broken(Rule::NotCarried, at));
     };
     let limits = limits_of(op);
-    let second = limits.second;
-    if words.len() - at < size_of(second) {
-        return ReadAnswer::Refused(Refusal {
-            number: NO_SECOND,
-            place: at,
-        });
+    if words.len() - at < size_of(limits.second) {
+        return Err(broken(Rule::NoSecond, at));
     }
     let word = word_at(words, at + 1);
     read_fields(op, limits, first, word, at)
 }
 
 // The instruction that the words start with; words after it are not looked at.
-pub fn read(words: &[u32]) -> ReadAnswer
+pub fn read(words: &[u32]) -> Result<Fetched, Refusal>
     ensures { result ≡ read_at words.now 0 }
 {
     read_at(words, 0)

@@ -6,14 +6,7 @@ ghost use Rattle.words.specs.Writing.{written, write_of};
 use instructions::forms::{Second, is_valid, limits_of, size_of};
 use instructions::instr::{Guard, Instr};
 use opcodes::table::{modifier_of, opcode_of};
-use refusals::{NO_WORDS, Refusal, SHORT};
-
-// How many words were written; or a refusal.
-#[derive(Clone, Copy)]
-pub enum WriteAnswer {
-    Wrote { words: usize },
-    Refused(Refusal),
-}
+use refusals::{Refusal, Rule, broken};
 
 // Negate in its place in word 0.
 fn negate_bit(guard: Guard) -> u32
@@ -26,17 +19,12 @@ fn negate_bit(guard: Guard) -> u32
 fn first_word(instr: Instr) -> u32
     ensures { result ≡ first_word instr }
 {
-    let op = instr.op;
-    let guard = instr.guard;
-    let opcode = opcode_of(op);
-    let modifier = modifier_of(op);
-    let negate = negate_bit(guard);
-    opcode * 0x1000000
+    opcode_of(instr.op) * 0x1000000
         + (instr.rd as u32) * 0x10000
         + (instr.rs1 as u32) * 0x100
-        + modifier * 0x10
-        + negate
-        + (guard.pred as u32)
+        + modifier_of(instr.op) * 0x10
+        + negate_bit(instr.guard)
+        + (instr.guard.pred as u32)
 }
 
 // Word 1, 0 where there is none.
@@ -46,35 +34,27 @@ fn second_word(second: Second, instr: Instr) -> u32
     match second {
         Second::Nothing => 0,
         Second::Number => instr.number,
-        Second::Registers(_, _, _) => {
+        Second::Registers(..) => {
             (instr.rs2 as u32) * 0x1000000 + (instr.rs3 as u32) * 0x10000 + (instr.scope as u32)
         }
     }
 }
 
-// The words of an instruction, at the start of `out`. What stands after them stays; a refusal changes nothing.
-pub fn write(instr: Instr, out: &mut [u32]) -> WriteAnswer
+// Puts the words of an instruction at the start of `out`, and answers how many they are. What stands after them stays; a refusal changes nothing.
+pub fn write(instr: Instr, out: &mut [u32]) -> Result<usize, Refusal>
     ensures { written result out.new ≡ write_of instr out.old }
 {
     if !is_valid(instr) {
-        return WriteAnswer::Refused(Refusal {
-            number: NO_WORDS,
-            place: 0,
-        });
+        return Err(broken(Rule::NoWords, 0));
     }
-    let op = instr.op;
-    let limits = limits_of(op);
-    let second = limits.second;
+    let second = limits_of(instr.op).second;
     let size = size_of(second);
     if out.len() < size {
-        return WriteAnswer::Refused(Refusal {
-            number: SHORT,
-            place: 0,
-        });
+        return Err(broken(Rule::Short, 0));
     }
     out[0] = first_word(instr);
     if size == 2 {
         out[1] = second_word(second, instr);
     }
-    WriteAnswer::Wrote { words: size }
+    Ok(size)
 }

@@ -1,20 +1,16 @@
--- The invariant: the blocks that are left fit exactly if all do.
-use mathlib.Core.Path.{refl, sym, ◌∙◌}
-use borrow.Author.Rules.{rules}
-use Rattle.formats.proofs.Each.{all_stop, all_on, all_end}
+-- Each block in turn is tested.
+use Rattle.std.proofs.Common.{arith, rules, tests, ◌∙◌, ◌+◌, ◌*◌, ℕ}
+use Rattle.std.proofs.lemmas.Iterator.{YieldsList-from_range}
+use Rattle.std.proofs.lemmas.Iterator.Search.{all_from_yields_List}
+use Rattle.formats.proofs.Each.{all_each}
+use Rattle.body.specs.Body.{set_bytes}
+use Rattle.body.specs.Layout.{block_fits}
+use Rattle.body.specs.Places.{block_at}
 use Rattle.body.proofs.blocks_fit.Goals as goal
 
-pub loop-left-init : goal.loop-left-init
-loop-left-init c = (c.requires, refl)
-
-pub returns-then-not-block_fits : goal.returns-then-not-block_fits
-returns-then-not-block_fits c =
-    sym (c.loop-left.invariant.1 ∙ all_stop _ _ _ _ _ c.loop-left-test.true (sym c.block_fits.ensures ∙ c.if-not-block_fits.true))
-
-pub loop-left-preserved : goal.loop-left-preserved
-loop-left-preserved c =
-    let fits = sym c.block_fits.ensures ∙ c.if-not-block_fits.false in
-    (search rules, c.loop-left.invariant.1 ∙ all_on _ _ _ _ _ c.loop-left-test.true fits)
-
 pub returns : goal.returns
-returns c = sym (c.loop-left.invariant.1 ∙ all_end _ _ _ _ _ c.loop-left-test.false)
+returns c =
+    let block = block_at set_bytes c.args.bytes.now in
+    all_from_yields_List (λ (k : ℕ). block_fits (block (c.args.p + 24 * k))) _ _ _ c.all.ensures.ran
+    (YieldsList-from_range 0 c.args.depth c.args.depth (search rules) (omega arith)) (λ x b q k. search (rules, tests))
+    ∙ all_each block_fits block 24 c.args.p c.args.depth

@@ -4,11 +4,11 @@ use mathlib.Core.Path.{sym, ◌∙◌}
 use Rattle.body.proofs.Spelling.{too_many, testing_start, testing_stop, testing_next, testing_room, testing_end}
 use Rattle.body.proofs.faults_fit.Goals as goal
 
-pub returns-then-left-gt-MOST_KINDS : goal.returns-then-left-gt-MOST_KINDS
-returns-then-left-gt-MOST_KINDS c = too_many _ (omega (arith, c.count-left.ensures, c.if-left-gt-MOST_KINDS.true))
+pub returns-then-many-gt-MOST_KINDS : goal.returns-then-many-gt-MOST_KINDS
+returns-then-many-gt-MOST_KINDS c = too_many _ (omega (arith, c.count-many.ensures, c.if-many-gt-MOST_KINDS.true))
 
 pub loop-left-init : goal.loop-left-init
-loop-left-init c = (omega (arith, c.count-left.ensures, c.if-left-gt-MOST_KINDS.false), testing_start _ _ c.count-left.ensures)
+loop-left-init c = (omega (arith, c.count-many.ensures, c.if-many-gt-MOST_KINDS.false), testing_start _ _ c.count-many.ensures)
 
 pub returns-then-not-may_precede : goal.returns-then-not-may_precede
 returns-then-not-may_precede c =

@@ -8,6 +8,3 @@ use Rattle.body.proofs.faults_fit.Given as goal
 
 abbrev pub invariant-loop-left : goal.invariant-loop-left
 invariant-loop-left l = (length (parts_at l.bytes).faults ≤ most_kinds) × Testing (parts_at l.bytes).faults l.left l.kinds l.seen
-
-abbrev pub decreases-loop-left : goal.decreases-loop-left
-decreases-loop-left l = l.left

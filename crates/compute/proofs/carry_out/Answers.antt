@@ -6,9 +6,6 @@ use Rattle.compute.specs.Carrying.{outcome}
 use Rattle.compute.proofs.Carrying.{carried_in, carried_out}
 use Rattle.compute.proofs.carry_out.Goals as goal
 
-pub carry-requires : goal.carry-requires
-carry-requires c = sym c.in_shape.ensures ∙ c.if-in_shape.true
-
 pub returns-then-in_shape : goal.returns-then-in_shape
 returns-then-in_shape c =
     let a = c.args in

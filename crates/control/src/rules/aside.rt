@@ -1,58 +1,40 @@
 // Setting lanes aside in the innermost open loop: BREAK and CONTINUE.
-ghost use Rattle.std.specs.Prelude.{◌≡◌, ◌<◌, min, set, bit_or, slice_index, slice_set};
+ghost use Rattle.std.specs.Prelude.{◌≡◌, ◌<◌, min, IfSome};
 ghost use Rattle.lanes.specs.Blocks.{nesting};
-ghost use Rattle.lanes.specs.declared.said.Block.{Block};
-ghost use Rattle.wave.specs.Layout.{block_numbers, opened, over};
+ghost use Rattle.wave.specs.Layout.{opened, over};
 ghost use Rattle.wave.specs.Wave.{Does};
-ghost use Rattle.control.specs.Rules.{aside_rule, break_rule, continue_rule, to_loop};
-ghost use Rattle.control.specs.Search.{loop_at, same, Joins};
+ghost use Rattle.control.specs.Rules.{break_rule, continue_rule, to_loop};
+ghost use Rattle.control.specs.Search.{loop_at, same, less};
 
 use crate::rules::going::after_place;
-use lanes::said::{LOOP, NESTING};
+use lanes::said::{Block, DEEPEST, LOOP};
 use lanes::{Lanes, without};
-use wave::state::{AGAIN, ASIDE, BLOCK_NUMBERS, Hot, LEFT, PATH_NUMBERS, depth_of, whole};
+use wave::state::{Hot, depth_of};
 
-// The outward search through open blocks: the lanes t leave each block inside the innermost loop, whose number is the answer; 32 where no
-// loop is open.
-fn leave_inner(depth: u32, t: Lanes, blocks: &mut [u32; PATH_NUMBERS]) -> u32
-    ensures { (result ≡ loop_at (opened blocks.old (min depth nesting)))
-        × (blocks.new ≡ over (to_loop same t (opened blocks.old (min depth nesting))) blocks.old) }
+// The outward search through open blocks: the lanes t leave each block inside the innermost loop, whose number is the answer, if a loop
+// is open. Page 01 names this form: a loop that yields the number by break.
+fn leave_inner(depth: u32, t: Lanes, blocks: &mut [Block; DEEPEST]) -> Option<usize>
+    ensures number { result ≡ loop_at (opened blocks.old (min depth nesting)) }
+    ensures room { IfSome result (λ l. l < nesting) }
+    ensures left { blocks.new ≡ over (to_loop same t (opened blocks.old (min depth nesting))) blocks.old }
 {
-    whole(blocks);
-    let mut i = depth_of(depth);
-    let n = loop {
+    let mut i = depth_of(depth) as usize;
+    loop {
         if i == 0 {
-            break NESTING;
+            break None;
         }
         i -= 1;
-        let k = BLOCK_NUMBERS * (i as usize);
-        if blocks[k] == LOOP {
-            break i;
+        if blocks[i].part == LOOP {
+            break Some(i);
         }
-        blocks[k + LEFT] = blocks[k + LEFT] | t;
-    };
-    n
-}
-
-// The lanes t join number k; past the array nothing happens.
-fn join_number(k: usize, t: Lanes, blocks: &mut [u32; PATH_NUMBERS])
-    ensures { blocks.new ≡ slice_set blocks.old k (bit_or (slice_index blocks.old k) t) }
-{
-    whole(blocks);
-    if k < PATH_NUMBERS {
-        blocks[k] = blocks[k] | t;
+        blocks[i].left |= t;
     }
 }
 
-// The lanes t leave the active ones, and join a number of the innermost open loop; f is what that makes of the loop.
-fn aside_rule(h: Hot, t: Lanes, number: usize, blocks: &mut [u32; PATH_NUMBERS]) -> Hot
-    requires { number < block_numbers }
-    ensures { (f : Block → Block) → Joins f t number → Does (aside_rule f t) h blocks.old result blocks.new }
+// The hot numbers of the next place, where the lanes t are no longer active.
+pub(crate) fn without_lanes(h: Hot, t: Lanes) -> Hot
+    ensures { result ≡ less t h }
 {
-    whole(blocks);
-    let l = leave_inner(h.depth, t, blocks);
-    let k = BLOCK_NUMBERS * (l as usize) + number;
-    join_number(k, t, blocks);
     let mut n = h;
     n.place = after_place(h.place);
     n.active = without(h.active, t);
@@ -61,15 +43,21 @@ fn aside_rule(h: Hot, t: Lanes, number: usize, blocks: &mut [u32; PATH_NUMBERS])
 }
 
 // BREAK: the lanes t are set aside in the innermost open loop, as broken.
-pub(crate) fn break_rule(h: Hot, t: Lanes, blocks: &mut [u32; PATH_NUMBERS]) -> Hot
+pub(crate) fn break_rule(h: Hot, t: Lanes, blocks: &mut [Block; DEEPEST]) -> Hot
     ensures { Does (break_rule t) h blocks.old result blocks.new }
 {
-    aside_rule(h, t, ASIDE, blocks)
+    if let Some(l) = leave_inner(h.depth, t, blocks) {
+        blocks[l].aside |= t;
+    }
+    without_lanes(h, t)
 }
 
 // CONTINUE: the lanes t are set aside in the innermost open loop, as continued.
-pub(crate) fn continue_rule(h: Hot, t: Lanes, blocks: &mut [u32; PATH_NUMBERS]) -> Hot
+pub(crate) fn continue_rule(h: Hot, t: Lanes, blocks: &mut [Block; DEEPEST]) -> Hot
     ensures { Does (continue_rule t) h blocks.old result blocks.new }
 {
-    aside_rule(h, t, AGAIN, blocks)
+    if let Some(l) = leave_inner(h.depth, t, blocks) {
+        blocks[l].again |= t;
+    }
+    without_lanes(h, t)
 }

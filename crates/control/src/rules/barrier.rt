@@ -6,14 +6,14 @@ ghost use Rattle.control.specs.Control.{given, giving};
 
 use crate::rules::Stepped;
 use crate::rules::going::after_place;
+use lanes::said::{Block, DEEPEST};
 use lanes::{Lanes, without};
-use wave::state::{Hot, PATH_NUMBERS, depth_of, whole};
+use wave::state::{Hot, depth_of};
 
 // BARRIER: fault 5 where some lane is active and some launched, unhalted lane is not; `all` are the launched lanes.
-pub(crate) fn barrier_rule(h: Hot, all: Lanes, blocks: &mut [u32; PATH_NUMBERS]) -> Stepped
+pub(crate) fn barrier_rule(h: Hot, all: Lanes, blocks: &mut [Block; DEEPEST]) -> Stepped
     ensures { given result blocks.new ≡ giving (barrier_lanes all (wave_of h blocks.old)) (barrier_rule all) h blocks.old }
 {
-    whole(blocks);
     let here = h.active | h.halted;
     let rest = without(all, here);
     let stop = (h.active != 0) & (rest != 0);

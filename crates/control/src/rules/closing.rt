@@ -3,14 +3,13 @@ ghost use Rattle.wave.specs.Wave.{Does};
 ghost use Rattle.control.specs.Rules.{else_rule, endif_rule, endloop_rule};
 
 use crate::rules::going::after_place;
-use lanes::said::AFTER_ELSE;
-use wave::state::{AGAIN, ASIDE, BLOCK_NUMBERS, Hot, OPENER, PATH_NUMBERS, depth_of, whole};
+use lanes::said::{AFTER_ELSE, Block, DEEPEST};
+use wave::state::{Hot, depth_of};
 
 // ELSE: active and waiting lanes change places.
-pub(crate) fn else_rule(h: Hot, blocks: &mut [u32; PATH_NUMBERS]) -> Hot
+pub(crate) fn else_rule(h: Hot, blocks: &mut [Block; DEEPEST]) -> Hot
     ensures { Does else_rule h blocks.old result blocks.new }
 {
-    whole(blocks);
     let d = depth_of(h.depth);
     let mut n = h;
     n.place = after_place(h.place);
@@ -18,20 +17,17 @@ pub(crate) fn else_rule(h: Hot, blocks: &mut [u32; PATH_NUMBERS]) -> Hot
     if d == 0 {
         return n;
     }
-    let e = d - 1;
-    let k = BLOCK_NUMBERS * (e as usize);
-    let waiting = blocks[k + ASIDE];
-    blocks[k] = AFTER_ELSE;
-    blocks[k + ASIDE] = h.active;
-    n.active = waiting;
+    let block = &mut blocks[d as usize - 1];
+    n.active = block.aside;
+    block.part = AFTER_ELSE;
+    block.aside = h.active;
     n
 }
 
 // ENDIF: the waiting lanes join the active ones.
-pub(crate) fn endif_rule(h: Hot, blocks: &mut [u32; PATH_NUMBERS]) -> Hot
+pub(crate) fn endif_rule(h: Hot, blocks: &mut [Block; DEEPEST]) -> Hot
     ensures { Does endif_rule h blocks.old result blocks.new }
 {
-    whole(blocks);
     let d = depth_of(h.depth);
     let mut n = h;
     n.place = after_place(h.place);
@@ -39,18 +35,15 @@ pub(crate) fn endif_rule(h: Hot, blocks: &mut [u32; PATH_NUMBERS]) -> Hot
     if d == 0 {
         return n;
     }
-    let e = d - 1;
-    let k = BLOCK_NUMBERS * (e as usize);
-    n.active = h.active | blocks[k + ASIDE];
-    n.depth = e;
+    n.active = h.active | blocks[d as usize - 1].aside;
+    n.depth = d - 1;
     n
 }
 
 // ENDLOOP: the continued lanes join the active ones; the loop goes round if any is active, and closes if none.
-pub(crate) fn endloop_rule(h: Hot, blocks: &mut [u32; PATH_NUMBERS]) -> Hot
+pub(crate) fn endloop_rule(h: Hot, blocks: &mut [Block; DEEPEST]) -> Hot
     ensures { Does endloop_rule h blocks.old result blocks.new }
 {
-    whole(blocks);
     let d = depth_of(h.depth);
     let mut n = h;
     n.place = after_place(h.place);
@@ -58,16 +51,15 @@ pub(crate) fn endloop_rule(h: Hot, blocks: &mut [u32; PATH_NUMBERS]) -> Hot
     if d == 0 {
         return n;
     }
-    let e = d - 1;
-    let k = BLOCK_NUMBERS * (e as usize);
-    let go = h.active | blocks[k + AGAIN];
+    let block = blocks[d as usize - 1];
+    let go = h.active | block.again;
     if go == 0 {
-        n.active = blocks[k + ASIDE];
-        n.depth = e;
+        n.active = block.aside;
+        n.depth = d - 1;
         return n;
     }
-    n.place = after_place(blocks[k + OPENER]);
+    n.place = after_place(block.opener);
     n.active = go;
-    blocks[k + AGAIN] = 0;
+    blocks[d as usize - 1].again = 0;
     n
 }

@@ -4,8 +4,9 @@ ghost use Rattle.wave.specs.Wave.{Does};
 ghost use Rattle.wave.specs.Going.{next};
 ghost use Rattle.control.specs.Rules.{onward};
 
+use lanes::said::{Block, DEEPEST};
 use wave::going::onward_by;
-use wave::state::{Hot, PATH_NUMBERS, whole};
+use wave::state::Hot;
 
 // The place after this one; 0 after the largest.
 pub(crate) fn after_place(place: u32) -> u32
@@ -15,9 +16,8 @@ pub(crate) fn after_place(place: u32) -> u32
 }
 
 // NOP.
-pub(crate) fn onward(h: Hot, blocks: &mut [u32; PATH_NUMBERS]) -> Hot
+pub(crate) fn onward(h: Hot, blocks: &mut [Block; DEEPEST]) -> Hot
     ensures { Does onward h blocks.old result blocks.new }
 {
-    whole(blocks);
     onward_by(1, h)
 }

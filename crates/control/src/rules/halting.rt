@@ -2,26 +2,20 @@
 ghost use Rattle.wave.specs.Wave.{Does};
 ghost use Rattle.control.specs.Rules.{halt_rule};
 
-use crate::rules::going::after_place;
-use lanes::{Lanes, without};
-use wave::state::{BLOCK_NUMBERS, Hot, LEFT, PATH_NUMBERS, depth_of, whole};
+use crate::rules::aside::without_lanes;
+use lanes::Lanes;
+use lanes::said::{Block, DEEPEST};
+use wave::state::{Hot, depth_of};
 
 // HALT: the lanes t halt for good, and leave every open block.
-pub(crate) fn halt_rule(h: Hot, t: Lanes, blocks: &mut [u32; PATH_NUMBERS]) -> Hot
+pub(crate) fn halt_rule(h: Hot, t: Lanes, blocks: &mut [Block; DEEPEST]) -> Hot
     ensures { Does (halt_rule t) h blocks.old result blocks.new }
 {
-    whole(blocks);
-    let d = depth_of(h.depth);
-    let mut i = d;
-    while 0 < i {
-        i -= 1;
-        let k = BLOCK_NUMBERS * (i as usize) + LEFT;
-        blocks[k] = blocks[k] | t;
+    let d = depth_of(h.depth) as usize;
+    for block in &mut blocks[..d] {
+        block.left |= t;
     }
-    let mut n = h;
-    n.place = after_place(h.place);
-    n.active = without(h.active, t);
+    let mut n = without_lanes(h, t);
     n.halted = h.halted | t;
-    n.depth = d;
     n
 }

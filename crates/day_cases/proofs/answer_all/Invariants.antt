@@ -1,10 +1,6 @@
--- Every part that is taken lies in the cases.
-use Prim.Native.Nat.{◌-◌, ◌≤◌}
+-- What is left gets shorter.
 use lib.ListN.{length}
 use Rattle.day_cases.proofs.answer_all.Given as goal
 
-abbrev pub invariant-loop-at : goal.invariant-loop-at
-invariant-loop-at l = (l.at ≤ length l.cases) × ((l.from ≤ l.to) × (l.to ≤ length l.cases))
-
-abbrev pub decreases-loop-at : goal.decreases-loop-at
-decreases-loop-at l = length l.cases - l.at
+abbrev pub decreases-loop-rest : goal.decreases-loop-rest
+decreases-loop-rest l = length l.rest

@@ -9,11 +9,11 @@ returns-then-words-at c = c.no_operation.ensures ∙ sym (fetch_past _ _ c.if-wo
 pub returns-in_default : goal.returns-in_default
 returns-in_default c =
     c.no_operation-in_default.ensures
-    ∙ sym (fetch_missing _ _ c.if-words-at.false (sym c.op_in-found.ensures ∙ c.in_default.is))
+    ∙ sym (fetch_missing _ _ c.if-words-at.false (sym c.op_in.ensures ∙ c.in_default.is))
 
 pub returns : goal.returns
 returns c =
-    (λ k. record { instr = c.instr_in.ensures k; words = c.count_with.ensures k })
+    (λ k. record { instr = c.instr_in.ensures k; words = c.size_of.ensures k })
     ∙ sym
-    (fetch_carried _ _ c.if-words-at.false c.in-Carried.op c.limits_of-limits.result c.word_at-word.result
-    (sym c.op_in-found.ensures ∙ c.in-Carried.is) c.limits_of-limits.ensures c.word_at-word.ensures)
+    (fetch_carried _ _ c.if-words-at.false c.in-Some.op c.limits_of-second.result c.word_at-word.result
+    (sym c.op_in.ensures ∙ c.in-Some.is) c.limits_of-second.ensures c.word_at-word.ensures)

@@ -1,6 +1,6 @@
 -- The invariant: the numbers that are left, got where the loop stands, give the whole result.
 use mathlib.Core.Path.{◌≡◌}
-use Prim.Native.Nat.{◌-◌, ◌*◌, ◌≤◌}
+use Prim.Native.Nat.{◌-◌, ◌*◌}
 use lib.ListN.{length}
 use Rattle.numbers.specs.Numbers.{numbers_at}
 use Rattle.numbers.specs.Placed.{placed}
@@ -8,9 +8,4 @@ use Rattle.numbers.proofs.get_words.Given as goal
 
 abbrev pub invariant-loop-k : goal.invariant-loop-k
 invariant-loop-k l =
-    (l.k ≤ length l.initial.words)
-    × (length l.words ≡ length l.initial.words)
-    × (placed l.words l.k (numbers_at l.rest (4 * l.k) (length l.initial.words - l.k)) ≡ numbers_at l.bytes l.at (length l.initial.words))
-
-abbrev pub decreases-loop-k : goal.decreases-loop-k
-decreases-loop-k l = length l.initial.words - l.k
+    placed l.words l.k (numbers_at l.rest (4 * l.k) (length l.initial.words - l.k)) ≡ numbers_at l.bytes l.at (length l.initial.words)

@@ -1,7 +1,8 @@
--- The array of the four bytes is `bytes_of n` as it stands.
-use Rattle.numbers.specs.Numbers.{bytes_of}
+-- The library's four bytes are `bytes_of n`.
+use mathlib.Core.Path.{ap, ◌∙◌}
+use Rattle.numbers.specs.Placed.{placed}
+use Rattle.numbers.proofs.Numerals.{to_four}
 use Rattle.numbers.proofs.put.Goals as goal
 
 pub returns : goal.returns
-unfolding bytes_of
-returns c = c.put_bytes.ensures
+returns c = let a = c.args in c.put_bytes.ensures ∙ ap (placed a.out.now a.at) (c.to_le_bytes.ensures ∙ to_four a.n)

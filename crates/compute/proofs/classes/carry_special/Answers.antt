@@ -1,14 +1,6 @@
 -- `compute::classes::carry_special` meets its contract: the writer was handed the results, and no fault.
-use mathlib.Core.Path.{refl}
-use Rattle.compute.proofs.Standing.{ready_narrow, ready_rd}
 use Rattle.compute.proofs.Arms.{arm_special}
 use Rattle.compute.proofs.classes.carry_special.Goals as goal
-
-pub special_results-value-requires : goal.special_results-value-requires
-special_results-value-requires c = ready_narrow c.requires
-
-pub write_results-requires : goal.write_results-requires
-write_results-requires c = ready_rd c.requires refl
 
 pub returns : goal.returns
 returns c device local p =

@@ -5,12 +5,6 @@ use Rattle.compute.proofs.Standing.{ready_as}
 use Rattle.compute.proofs.Arms.{arm_store_device, arm_store_local}
 use Rattle.compute.proofs.classes.carry_store.Goals as goal
 
-pub store_through-requires : goal.store_through-requires
-store_through-requires c = ready_as c.requires (ap Op.Store c.in-Device.is)
-
-pub store_through-requires-in-Local : goal.store_through-requires-in-Local
-store_through-requires-in-Local c = ready_as c.requires (ap Op.Store c.in-Local.is)
-
 pub returns-in-Device : goal.returns-in-Device
 returns-in-Device c p =
     let a = c.args in

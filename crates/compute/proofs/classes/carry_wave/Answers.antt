@@ -1,14 +1,6 @@
 -- `compute::classes::carry_wave` meets its contract: the writer was handed the results of the registers read, and no fault.
-use mathlib.Core.Path.{refl}
-use Rattle.compute.proofs.Standing.{ready_rd, ready_rs1}
 use Rattle.compute.proofs.Arms.{arm_wave}
 use Rattle.compute.proofs.classes.carry_wave.Goals as goal
-
-pub gather-numbers-requires : goal.gather-numbers-requires
-gather-numbers-requires c = ready_rs1 c.requires refl
-
-pub write_results-requires : goal.write_results-requires
-write_results-requires c = ready_rd c.requires refl
 
 pub returns : goal.returns
 returns c device local p =

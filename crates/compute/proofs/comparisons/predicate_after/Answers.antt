@@ -9,12 +9,6 @@ use Rattle.compute.proofs.comparisons.predicate_after.Goals as goal
 pub loop-i-init : goal.loop-i-init
 loop-i-init c = marked_none _
 
-pub bounds-results-k : goal.bounds-results-k
-bounds-results-k c = omega (arith, c.requires)
-
-pub marked-requires : goal.marked-requires
-marked-requires c = omega (arith, c.requires)
-
 pub loop-i-preserved : goal.loop-i-preserved
 loop-i-preserved c =
     marked_more c.loop-i.invariant (omega arith) _ _ c.union-set.ensures c.marked.ensures

@@ -1,15 +1,9 @@
--- `compute::memory::load_lanes` meets its contract: at turn i the lanes below i have their words.
-use native.Mathlib.Omega.{arith}
+-- `compute::memory::load_lanes` meets its contract: each lane has its word.
+use Rattle.std.proofs.Common.{rules}
+use Rattle.compute.specs.Memory.{word_at}
 use Rattle.compute.specs.Lanewise.{load_lanes}
-use Rattle.lanes.proofs.Filling.{filled_none, filled_more, filled_all}
 use Rattle.compute.proofs.memory.load_lanes.Goals as goal
-
-pub loop-i-init : goal.loop-i-init
-loop-i-init c = filled_none _ c.requires
-
-pub loop-i-preserved : goal.loop-i-preserved
-loop-i-preserved c = filled_more c.loop-i.invariant (omega arith) _ c.word.ensures
 
 pub returns : goal.returns
 unfolding load_lanes
-returns c = filled_all c.loop-i.invariant (omega arith)
+returns c = c.each_lane.ensures (word_at c.args.at.now c.args.memory.now) (λ i r b e. search rules)

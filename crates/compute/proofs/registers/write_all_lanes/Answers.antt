@@ -1,41 +1,26 @@
 -- `compute::registers::write_all_lanes` meets its contract: at turn i the lanes below i have had their turns, and each wrote.
-use mathlib.Core.Path.{◌≡◌}
-use Prim.Native.Nat.{◌<◌}
 use native.Mathlib.Omega.{arith}
-use lib.ListN.{length}
-use Rattle.ground.proofs.Turns.{turned_none, turned_more, turned_all, length-turned}
-use Rattle.lanes.specs.Sets.{first}
+use Rattle.ground.proofs.Turns.{turned_none, turned_more, turned_all}
 use Rattle.compute.specs.Registers.{write_lanes}
 use Rattle.compute.proofs.Slots.{slot_in_lem}
-use Rattle.compute.proofs.Writing.{write_turn_all, length-write_turn}
+use Rattle.compute.proofs.Writing.{write_inside, write_turn_all}
 use Rattle.compute.proofs.registers.write_all_lanes.Goals as goal
 
 pub loop-i-init : goal.loop-i-init
 loop-i-init c = turned_none _ _
 
-pub bounds-results-k : goal.bounds-results-k
-bounds-results-k c = omega (arith, c.requires.narrow)
+pub offset_bounds-regs-slot : goal.offset_bounds-regs-slot
+offset_bounds-regs-slot c = omega (arith, slot_in_lem c.requires _ _ c.slot.ensures (omega arith))
 
-pub offset_bounds-regs-at : goal.offset_bounds-regs-at
-offset_bounds-regs-at c = omega (arith, slot_in_lem c.requires _ _ c.slot-at.ensures (omega arith))
-
-pub bounds-regs-at : goal.bounds-regs-at
-bounds-regs-at c = omega (
-  arith,
-  (let at_long : length c.loop-i.regs ≡ length c.args.regs.now = let a = c.args in
-      length-turned (length-write_turn a.shape a.rd (first a.shape.width) a.results.now) c.loop-i.invariant in at_long),
-  (let at_inside : c.slot-at.result < length c.args.regs.now = slot_in_lem c.requires _ _ c.slot-at.ensures (omega arith) in at_inside),
-)
+pub bounds-regs-slot : goal.bounds-regs-slot
+bounds-regs-slot c = write_inside c.requires _ _ c.loop-i.invariant _ _ c.slot.ensures (omega arith)
 
 pub loop-i-preserved : goal.loop-i-preserved
 loop-i-preserved c =
     let a = c.args in
     let h = c.loop-i in
     turned_more h.invariant (omega arith) _
-    (write_turn_all a.shape a.rd a.results.now h.i h.regs _ c.slot-at.ensures (omega arith))
-
-pub shape_of-regs : goal.shape_of-regs
-shape_of-regs c = let a = c.args in length-turned (length-write_turn a.shape a.rd (first a.shape.width) a.results.now) c.loop-i.invariant
+    (write_turn_all a.shape a.rd a.results.now h.i h.regs _ c.slot.ensures (omega arith))
 
 pub returns : goal.returns
 unfolding write_lanes

@@ -1,11 +1,7 @@
 -- `compute::registers::write_some_lanes` meets its contract: at turn i the lanes below i have had their turns.
-use Prim.Native.Nat.{◌-◌}
 use Rattle.ground.proofs.Turns.{Turned}
 use Rattle.compute.specs.Registers.{write_turn}
 use Rattle.compute.proofs.registers.write_some_lanes.Given as goal
 
 abbrev pub invariant-loop-i : goal.invariant-loop-i
 invariant-loop-i l = Turned l.shape.width (write_turn l.shape l.rd l.t l.results) l.initial.regs l.regs l.i
-
-abbrev pub decreases-loop-i : goal.decreases-loop-i
-decreases-loop-i l = l.width - l.i

@@ -1,50 +1,70 @@
--- `compute::two_operands::two_results` meets its contract: each arm calls its operation's function.
+-- `compute::two_operands::two_results` meets its contract: each arm hands its operation to the loop.
+use Rattle.std.proofs.Common.{rules}
+use Rattle.instructions.specs.declared.instr.TwoOp.{TwoOp}
+use Rattle.arith.specs.Arith.{two_of}
+use Rattle.compute.specs.Lanewise.{two_lanes}
 use Rattle.compute.proofs.two_operands.two_results.Goals as goal
 
 pub returns-in-Add : goal.returns-in-Add
-returns-in-Add c = rw c.in-Add.is c.add_lanes.ensures
+unfolding two_lanes
+returns-in-Add c = rw c.in-Add.is (c.two_lanes.ensures (two_of TwoOp.Add) (λ a b r x y e. search rules))
 
 pub returns-in-Sub : goal.returns-in-Sub
-returns-in-Sub c = rw c.in-Sub.is c.sub_lanes.ensures
+unfolding two_lanes
+returns-in-Sub c = rw c.in-Sub.is (c.two_lanes-in-Sub.ensures (two_of TwoOp.Sub) (λ a b r x y e. search rules))
 
 pub returns-in-Mul : goal.returns-in-Mul
-returns-in-Mul c = rw c.in-Mul.is c.mul_lanes.ensures
+unfolding two_lanes
+returns-in-Mul c = rw c.in-Mul.is (c.two_lanes-in-Mul.ensures (two_of TwoOp.Mul) (λ a b r x y e. search rules))
 
 pub returns-in-Div : goal.returns-in-Div
-returns-in-Div c = rw c.in-Div.is c.div_lanes.ensures
+unfolding two_lanes
+returns-in-Div c = rw c.in-Div.is (c.two_lanes-in-Div.ensures (two_of TwoOp.Div) (λ a b r x y e. search rules))
 
 pub returns-in-Udiv : goal.returns-in-Udiv
-returns-in-Udiv c = rw c.in-Udiv.is c.udiv_lanes.ensures
+unfolding two_lanes
+returns-in-Udiv c = rw c.in-Udiv.is (c.two_lanes-in-Udiv.ensures (two_of TwoOp.Udiv) (λ a b r x y e. search rules))
 
 pub returns-in-Rem : goal.returns-in-Rem
-returns-in-Rem c = rw c.in-Rem.is c.rem_lanes.ensures
+unfolding two_lanes
+returns-in-Rem c = rw c.in-Rem.is (c.two_lanes-in-Rem.ensures (two_of TwoOp.Rem) (λ a b r x y e. search rules))
 
 pub returns-in-Urem : goal.returns-in-Urem
-returns-in-Urem c = rw c.in-Urem.is c.urem_lanes.ensures
+unfolding two_lanes
+returns-in-Urem c = rw c.in-Urem.is (c.two_lanes-in-Urem.ensures (two_of TwoOp.Urem) (λ a b r x y e. search rules))
 
 pub returns-in-Min : goal.returns-in-Min
-returns-in-Min c = rw c.in-Min.is c.min_lanes.ensures
+unfolding two_lanes
+returns-in-Min c = rw c.in-Min.is (c.two_lanes-in-Min.ensures (two_of TwoOp.Min) (λ a b r x y e. search rules))
 
 pub returns-in-Max : goal.returns-in-Max
-returns-in-Max c = rw c.in-Max.is c.max_lanes.ensures
+unfolding two_lanes
+returns-in-Max c = rw c.in-Max.is (c.two_lanes-in-Max.ensures (two_of TwoOp.Max) (λ a b r x y e. search rules))
 
 pub returns-in-Mulhi : goal.returns-in-Mulhi
-returns-in-Mulhi c = rw c.in-Mulhi.is c.mulhi_lanes.ensures
+unfolding two_lanes
+returns-in-Mulhi c = rw c.in-Mulhi.is (c.two_lanes-in-Mulhi.ensures (two_of TwoOp.Mulhi) (λ a b r x y e. search rules))
 
 pub returns-in-And : goal.returns-in-And
-returns-in-And c = rw c.in-And.is c.and_lanes.ensures
+unfolding two_lanes
+returns-in-And c = rw c.in-And.is (c.two_lanes-in-And.ensures (two_of TwoOp.And) (λ a b r x y e. search rules))
 
 pub returns-in-Or : goal.returns-in-Or
-returns-in-Or c = rw c.in-Or.is c.or_lanes.ensures
+unfolding two_lanes
+returns-in-Or c = rw c.in-Or.is (c.two_lanes-in-Or.ensures (two_of TwoOp.Or) (λ a b r x y e. search rules))
 
 pub returns-in-Xor : goal.returns-in-Xor
-returns-in-Xor c = rw c.in-Xor.is c.xor_lanes.ensures
+unfolding two_lanes
+returns-in-Xor c = rw c.in-Xor.is (c.two_lanes-in-Xor.ensures (two_of TwoOp.Xor) (λ a b r x y e. search rules))
 
 pub returns-in-Shl : goal.returns-in-Shl
-returns-in-Shl c = rw c.in-Shl.is c.shl_lanes.ensures
+unfolding two_lanes
+returns-in-Shl c = rw c.in-Shl.is (c.two_lanes-in-Shl.ensures (two_of TwoOp.Shl) (λ a b r x y e. search rules))
 
 pub returns-in-Shr : goal.returns-in-Shr
-returns-in-Shr c = rw c.in-Shr.is c.shr_lanes.ensures
+unfolding two_lanes
+returns-in-Shr c = rw c.in-Shr.is (c.two_lanes-in-Shr.ensures (two_of TwoOp.Shr) (λ a b r x y e. search rules))
 
 pub returns-in-Sar : goal.returns-in-Sar
-returns-in-Sar c = rw c.in-Sar.is c.sar_lanes.ensures
+unfolding two_lanes
+returns-in-Sar c = rw c.in-Sar.is (c.two_lanes-in-Sar.ensures (two_of TwoOp.Sar) (λ a b r x y e. search rules))

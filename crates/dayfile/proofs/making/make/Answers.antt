@@ -1,20 +1,18 @@
 -- By what the survey came to.
-use mathlib.Core.Path.{sym, ◌∙◌}
+use Rattle.std.proofs.Common.{sym, ◌∙◌}
+use Rattle.std.proofs.lemmas.Result.{err_from_is_err_and}
 use Rattle.dayfile.proofs.Layouts.{page_lawful}
 use Rattle.dayfile.proofs.Surveys.{good_lying}
-use Rattle.dayfile.proofs.Filing.{make_so, make_bad, make_many}
+use Rattle.dayfile.proofs.Filing.{make_so, make_not}
 use Rattle.dayfile.proofs.making.make.Goals as goal
 
+pub returns-in_err-n : goal.returns-in_err-n
+returns-in_err-n c =
+    let p = err_from_is_err_and c.from_residual.result c.from_residual.ensures.1 in
+    rw (p.1, p.2) (make_not _ _ _ _ c.in_err-n.ensures)
+
 pub make_good-requires : goal.make_good-requires
-make_good-requires c =
-    good_lying page_lawful _ _ (sym c.survey_of.ensures ∙ c.in-Good.is)
+make_good-requires c = good_lying page_lawful _ _ (sym c.in_ok-n.ensures)
 
-pub returns-in-Good : goal.returns-in-Good
-returns-in-Good c =
-    c.make_good.ensures ∙ make_so _ _ _ _ (sym c.in-Good.is ∙ c.survey_of.ensures)
-
-pub returns-in-Bad : goal.returns-in-Bad
-returns-in-Bad c = make_bad _ _ _ _ (sym c.in-Bad.is ∙ c.survey_of.ensures)
-
-pub returns-in-Many : goal.returns-in-Many
-returns-in-Many c = make_many _ _ _ (sym c.in-Many.is ∙ c.survey_of.ensures)
+pub returns : goal.returns
+returns c = c.make_good.ensures ∙ make_so _ _ _ _ c.in_ok-n.ensures

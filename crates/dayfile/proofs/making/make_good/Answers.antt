@@ -4,7 +4,7 @@ use Rattle.dayfile.proofs.Filing.{made_not, made_lying, made_so}
 use Rattle.dayfile.proofs.making.make_good.Goals as goal
 
 pub returns-then-out-total : goal.returns-then-out-total
-returns-then-out-total c = made_not page_lawful _ c.requires c.table_end-end.ensures c.if-out-total.true
+returns-then-out-total c = rw c.broken.ensures (made_not page_lawful _ c.requires c.table_end-end.ensures c.if-out-total.true)
 
 pub put_table-requires : goal.put_table-requires
 put_table-requires c =

@@ -1,7 +1,5 @@
 -- The invariant: the rows of the bodies that are left, put where the loop stands, give the whole table.
-use Prim.Native.Nat.{◌+◌, ◌<◌}
 use native.Mathlib.Omega.{arith}
-use Rattle.numbers.specs.Numbers.{bound}
 use Rattle.dayfile.proofs.Layouts.{page_lawful}
 use Rattle.dayfile.proofs.Filing.{filling_start, filling_starts, filling_near, filling_turn, filling_end}
 use Rattle.dayfile.proofs.making.put_table.Goals as goal
@@ -15,13 +13,13 @@ pub size_at-size-requires : goal.size_at-size-requires
 size_at-size-requires c = filling_starts page_lawful _ c.loop-k.invariant.1 c.loop-k-test.true
 
 pub overflow_cast-place : goal.overflow_cast-place
-overflow_cast-place c = omega (arith, (let at_near : c.loop-k.place + c.size_at-size.result < bound = filling_near page_lawful _ c.loop-k.invariant.1 c.loop-k-test.true c.size_at-size.ensures in at_near))
+overflow_cast-place c = omega (arith, filling_near page_lawful _ c.loop-k.invariant.1 c.loop-k-test.true c.size_at-size.ensures)
 
 pub overflow_cast-size : goal.overflow_cast-size
-overflow_cast-size c = omega (arith, (let at_near : c.loop-k.place + c.size_at-size.result < bound = filling_near page_lawful _ c.loop-k.invariant.1 c.loop-k-test.true c.size_at-size.ensures in at_near))
+overflow_cast-size c = omega (arith, filling_near page_lawful _ c.loop-k.invariant.1 c.loop-k-test.true c.size_at-size.ensures)
 
 pub overflow_add-place : goal.overflow_add-place
-overflow_add-place c = omega (arith, (let at_near : c.loop-k.place + c.size_at-size.result < bound = filling_near page_lawful _ c.loop-k.invariant.1 c.loop-k-test.true c.size_at-size.ensures in at_near))
+overflow_add-place c = omega (arith, filling_near page_lawful _ c.loop-k.invariant.1 c.loop-k-test.true c.size_at-size.ensures)
 
 pub loop-k-preserved : goal.loop-k-preserved
 loop-k-preserved c =

@@ -1,42 +1,36 @@
 -- The invariant: the survey of what is left, from where the loop stands, is the survey of all.
-use mathlib.Core.Path.{sym, ◌∙◌}
-use Prim.Native.Nat.{◌+◌, ◌-◌}
-use native.Mathlib.Omega.{arith}
-use Rattle.body.proofs.Answers.{length_says, refused_says}
-use Rattle.dayfile.specs.Day.{page}
+use Rattle.std.proofs.Common.{ap, ◌∙◌, arith, Ok}
+use Rattle.std.proofs.lemmas.Result.{err_from_is_err_and}
+use Rattle.body.proofs.Answers.{length_says, refused_is, refused_says}
 use Rattle.dayfile.proofs.Layouts.{page_lawful}
-use Rattle.dayfile.proofs.Surveys.{Surveying, surveying_start, surveying_end, surveying_many, surveying_bad, surveying_turn}
+use Rattle.dayfile.proofs.Surveys.{surveying_start, surveying_end, surveying_many, surveying_bad, surveying_turn}
 use Rattle.dayfile.proofs.making.survey_of.Goals as goal
 
-pub loop-at-init : goal.loop-at-init
-loop-at-init c = surveying_start
+pub loop-n-init : goal.loop-n-init
+loop-n-init c = surveying_start
 
-pub returns-then-room-eq0 : goal.returns-then-room-eq0
-returns-then-room-eq0 c = surveying_many page_lawful c.loop-at.invariant c.loop-at-test.true c.if-room-eq0.true
+pub returns-then-at-bodies : goal.returns-then-at-bodies
+returns-then-at-bodies c = surveying_end c.loop-n.invariant (omega arith)
 
-pub returns-in_default : goal.returns-in_default
-returns-in_default c =
-    let a = refused_says _ _ _ (sym c.in_default.is ∙ c.body_length.ensures) in
-    surveying_bad page_lawful c.loop-at.invariant c.loop-at-test.true c.if-room-eq0.false a
+pub returns-in_err-at : goal.returns-in_err-at
+returns-in_err-at c =
+    let e = c.in_err-at.ensures in
+    let p = err_from_is_err_and c.from_residual.result c.from_residual.ensures.1 in
+    rw (p.1, p.2) (refused_is _ _ _ e ∙ surveying_bad page_lawful c.loop-n.invariant (omega arith) c.loop-n-test.true (refused_says _ _ _ e))
 
 pub overflow_add-at : goal.overflow_add-at
-overflow_add-at c = omega (
-  arith,
-  ((let at_turn : let g = c.loop-at in
-      Surveying page c.args.bodies.now (g.at + c.in-Length.size) (g.n + 1) (g.room - 1) = let a = length_says _ _ _ (sym c.in-Length.is ∙ c.body_length.ensures) in
-      surveying_turn page_lawful c.loop-at.invariant c.loop-at-test.true c.if-room-eq0.false a.0 a.1 in at_turn)).within,
-)
+overflow_add-at c =
+    let a = length_says _ _ _ c.in_ok-at.ensures in
+    omega (arith, (surveying_turn page_lawful c.loop-n.invariant (omega arith) c.loop-n-test.true a.0 a.1).within)
 
-pub overflow_sub-room : goal.overflow_sub-room
-overflow_sub-room c = omega (arith, c.if-room-eq0.false)
+pub loop-n-preserved : goal.loop-n-preserved
+loop-n-preserved c =
+    let a = length_says _ _ _ c.in_ok-at.ensures in
+    surveying_turn page_lawful c.loop-n.invariant (omega arith) c.loop-n-test.true a.0 a.1
 
-pub loop-at-smaller : goal.loop-at-smaller
-loop-at-smaller c = omega (arith, c.if-room-eq0.false)
-
-pub loop-at-preserved : goal.loop-at-preserved
-loop-at-preserved c = (let at_turn : let g = c.loop-at in
-    Surveying page c.args.bodies.now (g.at + c.in-Length.size) (g.n + 1) (g.room - 1) = let a = length_says _ _ _ (sym c.in-Length.is ∙ c.body_length.ensures) in
-    surveying_turn page_lawful c.loop-at.invariant c.loop-at-test.true c.if-room-eq0.false a.0 a.1 in at_turn)
+pub returns-then-at-bodies-2 : goal.returns-then-at-bodies-2
+returns-then-at-bodies-2 c =
+    rw c.broken.ensures (surveying_many page_lawful c.loop-n.invariant c.if-at-bodies-2.true c.loop-n-test.false)
 
 pub returns : goal.returns
-returns c = surveying_end c.loop-at.invariant c.loop-at-test.false
+returns c = ap Ok (omega arith) ∙ surveying_end c.loop-n.invariant (omega arith)

@@ -8,7 +8,4 @@ use Rattle.fits.specs.FitsTest.{path_test}
 use Rattle.fits.proofs.sets.sets_fit.Given as goal
 
 abbrev pub invariant-loop-i : goal.invariant-loop-i
-invariant-loop-i l = (l.i ≤ nesting) × ((l.ok && path_test l.all l.h.halted l.inner (opened l.blocks l.i)) ≡ path_test l.all l.h.halted l.initial.inner (opened l.blocks l.initial.i))
-
-abbrev pub decreases-loop-i : goal.decreases-loop-i
-decreases-loop-i l = l.i
+invariant-loop-i l = (l.i ≤ nesting) × ((l.ok && path_test l.all l.h.halted l.inner (opened l.state.blocks l.i)) ≡ path_test l.all l.h.halted l.initial.inner (opened l.state.blocks l.initial.i))

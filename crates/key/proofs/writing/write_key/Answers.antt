@@ -8,10 +8,10 @@ returns-in-Fault c =
     c.write_fault.ensures ∙ key_fault _ c.args.answer _ _ c.in-Fault.is
 
 pub returns-in-Ended : goal.returns-in-Ended
-returns-in-Ended c = key_ended _ c.args.answer _ c.in-Ended.is
+returns-in-Ended c = rw c.broken.ensures (key_ended _ c.args.answer _ c.in-Ended.is)
 
 pub returns-in-OutOfBudget : goal.returns-in-OutOfBudget
-returns-in-OutOfBudget c = key_budget _ c.args.answer _ c.in-OutOfBudget.is
+returns-in-OutOfBudget c = rw c.broken-in-OutOfBudget.ensures (key_budget _ c.args.answer _ c.in-OutOfBudget.is)
 
 pub returns-in-Refused : goal.returns-in-Refused
-returns-in-Refused c = key_refused _ c.args.answer _ _ c.in-Refused.is
+returns-in-Refused c = rw c.broken-in-Refused.ensures (key_refused _ c.args.answer _ _ c.in-Refused.is)

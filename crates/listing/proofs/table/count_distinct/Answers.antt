@@ -2,22 +2,16 @@
 use native.Mathlib.Omega.{arith}
 use Rattle.listing.proofs.Lines.{distinct_first, distinct_later, distinct_end}
 use Rattle.listing.proofs.table.count_distinct.Goals as goal
-use Rattle.listing.proofs.table.count_distinct.Goals.{then-firsts-k, else-firsts-k}
-
-pub loop-k-init : goal.loop-k-init
-loop-k-init c = (omega arith, (omega arith, omega arith))
-
-pub overflow_cast-firsts : goal.overflow_cast-firsts
-overflow_cast-firsts c = omega (arith, c.shared_slice_known-1.given c.loop-k.k)
+use Rattle.listing.proofs.table.count_distinct.Goals.{then-first-k, else-first-k}
 
 pub loop-k-preserved : goal.loop-k-preserved
 loop-k-preserved c =
-    let g = c.loop-k in
+    let g = c.loop-k.invariant in
     let t = c.loop-k-test.true in
-    elim c.if-firsts-k.branch [
-      | then-firsts-k w ↦ (omega arith, (omega arith, rw w.d-is (distinct_first _ _ _ g.invariant.1.1 t w.if-firsts-k.true)))
-      | else-firsts-k w ↦ (omega arith, (omega arith, rw w.d-is (distinct_later _ _ _ g.invariant.1.1 t w.if-firsts-k.false)))
+    elim c.if-first-k.branch [
+      | then-first-k w ↦ (omega arith, rw w.d-is (distinct_first _ _ _ g.1 t w.if-first-k.true))
+      | else-first-k w ↦ (omega arith, rw w.d-is (distinct_later _ _ _ g.1 t w.if-first-k.false))
     ]
 
 pub returns : goal.returns
-returns c = distinct_end _ _ _ c.loop-k.invariant.1.1 c.loop-k-test.false
+returns c = distinct_end _ _ _ c.loop-k.invariant.1 c.loop-k-test.false

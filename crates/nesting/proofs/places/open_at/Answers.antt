@@ -7,25 +7,21 @@ use Rattle.nesting.proofs.Walks.{further, farther, nothing, arrived, missed}
 use Rattle.nesting.proofs.places.open_at.Goals as goal
 
 pub loop-at-init : goal.loop-at-init
-loop-at-init c = record { fits = code_fits c.args.code.now c.args.reading; blocks = []; holds = c.empty-s.ensures; same = refl }
-
-pub advance-moved-requires : goal.advance-moved-requires
-advance-moved-requires c = (c.loop-at.invariant.blocks, c.loop-at.invariant.holds)
+loop-at-init c = record { fits = code_fits c.args.code.now.words.now c.args.code.now.reading; blocks = []; holds = c.empty-stack.ensures; same = refl }
 
 pub loop-at-smaller : goal.loop-at-smaller
 loop-at-smaller c =
-    omega (arith, farther c.loop-at.invariant c.advance-moved.result c.loop-at-test.true c.advance-moved.ensures c.if-on.true)
+    omega (arith, farther c.loop-at.invariant _ c.loop-at-test.true c.advance.ensures c.in_ok-at.was)
 
 pub loop-at-preserved : goal.loop-at-preserved
-loop-at-preserved c =
-    further c.loop-at.invariant c.advance-moved.result c.loop-at-test.true c.advance-moved.ensures c.if-on.true
+loop-at-preserved c = further c.loop-at.invariant _ c.loop-at-test.true c.advance.ensures c.in_ok-at.was
 
-pub returns-else-on : goal.returns-else-on
-returns-else-on c =
-    c.not_found.ensures ∙ nothing c.loop-at.invariant c.advance-moved.result c.loop-at-test.true c.advance-moved.ensures c.if-on.false
+pub returns-in_err-at : goal.returns-in_err-at
+returns-in_err-at c =
+    c.from_residual.ensures ∙ nothing c.loop-at.invariant _ c.loop-at-test.true c.advance.ensures c.in_err-at.was
 
 pub returns-then-at-place : goal.returns-then-at-place
 returns-then-at-place c = arrived c.loop-at.invariant c.if-at-place.true
 
 pub returns-else-at-place : goal.returns-else-at-place
-returns-else-at-place c = c.not_found-else-at-place.ensures ∙ missed c.loop-at.invariant c.loop-at-test.false c.if-at-place.false
+returns-else-at-place c = missed c.loop-at.invariant c.loop-at-test.false c.if-at-place.false

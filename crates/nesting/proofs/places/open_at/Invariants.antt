@@ -5,7 +5,7 @@ use Rattle.nesting.proofs.Walks.{Walked}
 use Rattle.nesting.proofs.places.open_at.Given as goal
 
 abbrev pub invariant-loop-at : goal.invariant-loop-at
-invariant-loop-at l = Walked (code_of l.code l.reading) l.place l.s l.at
+invariant-loop-at l = Walked (code_of l.code.words.now l.code.reading) l.place l.stack l.at
 
 abbrev pub decreases-loop-at : goal.decreases-loop-at
 decreases-loop-at l = l.place - l.at

@@ -1,13 +1,8 @@
 -- The invariant: the walk that is left, from where the loop stands, answers for all.
-use mathlib.Core.Path.{◌≡◌, sym, ◌∙◌}
-use mathlib.Core.Bool.{true}
-use Prim.Native.Nat.{◌+◌}
-use native.Mathlib.Omega.{arith}
-use lib.ListN.{drop}
+use Rattle.std.proofs.Common.{sym, ◌∙◌, arith}
 use Rattle.body.proofs.Answers.{length_says, refused_says}
-use Rattle.dayfile.specs.Day.{page}
 use Rattle.dayfile.proofs.Layouts.{page_lawful}
-use Rattle.records.proofs.Walks.{Walking, walking_start, walking_end, walking_elsewhere, walking_refused, walking_unequal, walking_turn}
+use Rattle.records.proofs.Walks.{walking_start, walking_end, walking_elsewhere, walking_refused, walking_unequal, walking_turn}
 use Rattle.records.proofs.accepting.holds.Goals as goal
 
 pub loop-k-init : goal.loop-k-init
@@ -24,27 +19,22 @@ returns-in_default c =
 
 pub returns-then-record_length-size : goal.returns-then-record_length-size
 returns-then-record_length-size c =
-    walking_unequal page_lawful c.loop-k.invariant c.loop-k-test.true c.record_place.ensures c.if-record_place-p.false
-    ((let at_said : let s = drop c.loop-k.p c.args.file.now in
-    (page.starts s ≡ true) × (c.in-Length.size ≡ page.size s) = length_says _ _ _ (sym c.in-Length.is ∙ c.body_length.ensures) in at_said)).0 ((let at_said : let s = drop c.loop-k.p c.args.file.now in
-    (page.starts s ≡ true) × (c.in-Length.size ≡ page.size s) = length_says _ _ _ (sym c.in-Length.is ∙ c.body_length.ensures) in at_said)).1 c.record_length.ensures c.if-record_length-size.true
+    let b = length_says _ _ _ (sym c.in-Ok.is ∙ c.body_length.ensures) in
+    walking_unequal page_lawful c.loop-k.invariant c.loop-k-test.true c.record_place.ensures c.if-record_place-p.false b c.record_length.ensures
+    c.if-record_length-size.true
 
 pub overflow_add-p : goal.overflow_add-p
-overflow_add-p c = omega (
-  arith,
-  ((let at_turn : let a = c.args in
-      Walking page a.file.now a.n (c.loop-k.k + 1) (c.loop-k.p + c.in-Length.size) = walking_turn page_lawful c.loop-k.invariant c.loop-k-test.true c.record_place.ensures c.if-record_place-p.false
-      ((let at_said : let s = drop c.loop-k.p c.args.file.now in
-      (page.starts s ≡ true) × (c.in-Length.size ≡ page.size s) = length_says _ _ _ (sym c.in-Length.is ∙ c.body_length.ensures) in at_said)).0 ((let at_said : let s = drop c.loop-k.p c.args.file.now in
-      (page.starts s ≡ true) × (c.in-Length.size ≡ page.size s) = length_says _ _ _ (sym c.in-Length.is ∙ c.body_length.ensures) in at_said)).1 c.record_length.ensures c.if-record_length-size.false in at_turn)).inside,
-)
+overflow_add-p c =
+    let b = length_says _ _ _ (sym c.in-Ok.is ∙ c.body_length.ensures) in
+    let t = walking_turn page_lawful c.loop-k.invariant c.loop-k-test.true c.record_place.ensures c.if-record_place-p.false b c.record_length.ensures
+    c.if-record_length-size.false in
+    omega (arith, t.inside)
 
 pub loop-k-preserved : goal.loop-k-preserved
-loop-k-preserved c = (let at_turn : let a = c.args in
-    Walking page a.file.now a.n (c.loop-k.k + 1) (c.loop-k.p + c.in-Length.size) = walking_turn page_lawful c.loop-k.invariant c.loop-k-test.true c.record_place.ensures c.if-record_place-p.false
-    ((let at_said : let s = drop c.loop-k.p c.args.file.now in
-    (page.starts s ≡ true) × (c.in-Length.size ≡ page.size s) = length_says _ _ _ (sym c.in-Length.is ∙ c.body_length.ensures) in at_said)).0 ((let at_said : let s = drop c.loop-k.p c.args.file.now in
-    (page.starts s ≡ true) × (c.in-Length.size ≡ page.size s) = length_says _ _ _ (sym c.in-Length.is ∙ c.body_length.ensures) in at_said)).1 c.record_length.ensures c.if-record_length-size.false in at_turn)
+loop-k-preserved c =
+    let b = length_says _ _ _ (sym c.in-Ok.is ∙ c.body_length.ensures) in
+    walking_turn page_lawful c.loop-k.invariant c.loop-k-test.true c.record_place.ensures c.if-record_place-p.false b c.record_length.ensures
+    c.if-record_length-size.false
 
 pub returns : goal.returns
 returns c = walking_end c.loop-k.invariant c.loop-k-test.false

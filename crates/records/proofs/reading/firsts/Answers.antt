@@ -1,20 +1,14 @@
--- The file's tests, then the room, then what is put.
-use mathlib.Core.Path.{◌≡◌, sym, ◌∙◌}
+-- The file's tests, and then the records of the accepted file.
+use Rattle.std.proofs.Common.{ap, ◌∙◌, List, ℕ}
+use Rattle.std.proofs.lemmas.Result.{err_from_is_err_and}
 use Rattle.dayfile.specs.Day.{page}
-use Rattle.records.specs.Read.{refusal_of}
-use Rattle.records.proofs.Records.{count_is, firsts_refused, firsts_short, firsts_so}
+use Rattle.records.specs.Read.{firsts_in}
+use Rattle.records.proofs.Records.{firsts_refused}
 use Rattle.records.proofs.reading.firsts.Goals as goal
 
-pub returns-then-refused-ne0 : goal.returns-then-refused-ne0
-returns-then-refused-ne0 c = firsts_refused _ _ _ c.refusal-refused.ensures c.if-refused-ne0.true
-
-pub returns-then-out-n : goal.returns-then-out-n
-returns-then-out-n c = firsts_short _ _ _ ((let at_accepted : refusal_of page c.args.file.now ≡ 0 = sym c.refusal-refused.ensures ∙ c.if-refused-ne0.false in at_accepted)) (count_is _ _ c.get-n.ensures) c.if-out-n.true
-
-pub put_firsts-requires : goal.put_firsts-requires
-put_firsts-requires c = ((let at_accepted : refusal_of page c.args.file.now ≡ 0 = sym c.refusal-refused.ensures ∙ c.if-refused-ne0.false in at_accepted), (count_is _ _ c.get-n.ensures, c.if-out-n.false))
+pub returns-in_err-day : goal.returns-in_err-day
+returns-in_err-day c =
+    let p = err_from_is_err_and c.from_residual.result c.from_residual.ensures.1 in rw (p.1, p.2) (firsts_refused _ _ _ _ c.in_err-day.ensures)
 
 pub returns : goal.returns
-returns c =
-    let n = count_is _ _ c.get-n.ensures in
-    firsts_so _ _ _ ((let at_accepted : refusal_of page c.args.file.now ≡ 0 = sym c.refusal-refused.ensures ∙ c.if-refused-ne0.false in at_accepted)) n c.if-out-n.false c.put_firsts.ensures
+returns c = c.firsts.ensures ∙ ap (λ (f : List ℕ). firsts_in page f c.args.out.now) c.in_ok-day.ensures

@@ -3,11 +3,10 @@ use Rattle.replay.specs.Replay.{resume_of}
 use Rattle.replay.proofs.Entering.{refused_by, run_by}
 use Rattle.replay.proofs.doors.resume.Goals as goal
 
-pub returns-in-Refused : goal.returns-in-Refused
+pub returns-in-Err : goal.returns-in-Err
 unfolding resume_of
-returns-in-Refused c = refused_by c.test_resume-test.ensures _ c.in-Refused.is c.refused.ensures
+returns-in-Err c = refused_by c.test_resume.ensures _ c.in-Err.is c.refused.ensures
 
-pub returns-in-Fine : goal.returns-in-Fine
+pub returns-in-Ok : goal.returns-in-Ok
 unfolding resume_of
-returns-in-Fine c =
-    run_by c.test_resume-test.ensures _ _ _ _ c.in-Fine.is c.run_from.ensures
+returns-in-Ok c = run_by c.test_resume.ensures _ _ _ _ c.in-Ok.is c.run_from.ensures

@@ -7,6 +7,6 @@ pub slice_bounds-words-end : goal.slice_bounds-words-end
 unfolding word_count
 slice_bounds-words-end g c = omega arith
 
-pub slice_bounds-keep_words-end : goal.slice_bounds-keep_words-end
+pub slice_bounds-parts-end : goal.slice_bounds-parts-end
 unfolding word_count words_of
-slice_bounds-keep_words-end g c = sym (length-take-le _ _ (omega (arith, ap length c.words_of-words.ensures)))
+slice_bounds-parts-end g c = sym (length-take-le _ _ (omega (arith, ap length c.words_of-words.ensures)))

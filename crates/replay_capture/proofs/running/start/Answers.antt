@@ -1,13 +1,11 @@
--- By the test.
+-- By whether there is a state.
 use Rattle.runs.specs.Starting.{start_of}
 use Rattle.replay_capture.proofs.running.start.Goals as goal
 
-pub returns-then-launched : goal.returns-then-launched
+pub returns-in-None : goal.returns-in-None
 unfolding start_of
-returns-then-launched c =
-    rw c.if-launched.true c.launch.ensures
+returns-in-None c = rw c.in-None.is c.launch.ensures
 
-pub returns-else-launched : goal.returns-else-launched
+pub returns-in-Some : goal.returns-in-Some
 unfolding start_of
-returns-else-launched c =
-    rw c.if-launched.false c.resume.ensures
+returns-in-Some c = rw c.in-Some.is c.resume.ensures

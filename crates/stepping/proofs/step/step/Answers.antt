@@ -1,16 +1,20 @@
 -- A control instruction goes by its rule, any other by the lanes' work.
-use mathlib.Core.Path.{◌∙◌}
-use Rattle.stepping.proofs.Stepping.{Looked, step_control, step_ordinary}
+use mathlib.Core.Path.{sym, ◌∙◌}
+use Rattle.stepping.proofs.Stepping.{control_goes, control_stays, step_ordinary}
 use Rattle.stepping.proofs.step.step.Goals as goal
 
-pub returns-in-Control : goal.returns-in-Control
-returns-in-Control c =
+pub returns-then-is_clear-clause-machine : goal.returns-then-is_clear-clause-machine
+returns-then-is_clear-clause-machine c =
     let a = c.args in
-    step_control ((let at_looked : let a = c.args in
-    Looked a.x a.h c.executing-t.result c.control_in-kind.result = record { lanes = c.executing-t.ensures; is = c.control_in-kind.ensures } in at_looked)) c.in-Control.is _ a.blocks.now c.first.ensures c.whole.ensures
-    c.control-a.ensures c.of_barrier-faults.ensures
+    control_goes a.settings a.x a.h _ _ _ _ c.control-a.result c.executing-t.ensures (sym c.control_in.ensures ∙ c.in-Some.is) c.first.ensures c.told-blocks c.control-a.ensures
+    c.of_barrier-faults.ensures (sym c.is_clear.ensures ∙ c.if-is_clear.true)
 
-pub returns-in-Other : goal.returns-in-Other
-returns-in-Other c =
-    c.ordinary.ensures _ ∙ step_ordinary ((let at_looked : let a = c.args in
-    Looked a.x a.h c.executing-t.result c.control_in-kind.result = record { lanes = c.executing-t.ensures; is = c.control_in-kind.ensures } in at_looked)) c.in-Other.is _ _ _ _ _
+pub returns-else-is_clear-clause-machine : goal.returns-else-is_clear-clause-machine
+returns-else-is_clear-clause-machine c =
+    let a = c.args in
+    control_stays a.settings a.x a.h _ _ _ _ c.control-a.result c.executing-t.ensures (sym c.control_in.ensures ∙ c.in-Some.is) c.first.ensures c.told-blocks c.control-a.ensures
+    c.of_barrier-faults.ensures (sym c.is_clear.ensures ∙ c.if-is_clear.false)
+
+pub returns-in-None-clause-machine : goal.returns-in-None-clause-machine
+returns-in-None-clause-machine c =
+    c.ordinary.ensures.machine _ ∙ step_ordinary _ _ _ _ _ _ _ c.executing-t.ensures (sym c.control_in.ensures ∙ c.in-None.is)

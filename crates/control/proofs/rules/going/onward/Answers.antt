@@ -3,4 +3,4 @@ use Rattle.control.proofs.Ruling.{onward_does}
 use Rattle.control.proofs.rules.going.onward.Goals as goal
 
 pub returns : goal.returns
-returns c = let s = c.args in onward_does s.h 1 s.blocks.now _ c.whole.ensures c.onward_by.ensures
+returns c = let s = c.args in onward_does s.h 1 s.blocks.now _ c.told-blocks c.onward_by.ensures

@@ -1,7 +1,0 @@
--- A list of so many equal elements has that length.
-use Rattle.std.proofs.Common.{ℕ, sym}
-use lib.ListN.{length-replicate}
-use Rattle.agree.proofs.answer_room.Goals as goal
-
-pub returns : goal.returns
-returns c = sym (length-replicate {0} {A = ℕ} 131072 0)

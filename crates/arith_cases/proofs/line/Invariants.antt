@@ -1,9 +1,0 @@
--- `arith_cases::line` is safe and ends: it counts to 16.
-use Rattle.std.proofs.Common.{◌-◌, ◌≤◌}
-use Rattle.arith_cases.proofs.line.Given as goal
-
-abbrev pub invariant-loop-i : goal.invariant-loop-i
-invariant-loop-i l = l.i ≤ 16
-
-abbrev pub decreases-loop-i : goal.decreases-loop-i
-decreases-loop-i l = 16 - l.i

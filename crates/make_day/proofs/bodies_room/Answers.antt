@@ -1,8 +1,0 @@
--- A list of so many equal elements has that length.
-use Rattle.std.proofs.Common.{ℕ, ◌+◌, sym}
-use Rattle.std.proofs.lemmas.List.{length-replicate}
-use Rattle.dayfile.specs.Day.{most_bytes}
-use Rattle.make_day.proofs.bodies_room.Goals as goal
-
-pub returns : goal.returns
-returns c = sym (length-replicate {A = ℕ} (most_bytes + 1) 0)

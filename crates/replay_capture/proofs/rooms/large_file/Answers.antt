@@ -1,7 +1,0 @@
--- A list of so many equal elements has that length.
-use Rattle.std.proofs.Common.{ℕ, sym}
-use lib.ListN.{length-replicate}
-use Rattle.replay_capture.proofs.rooms.large_file.Goals as goal
-
-pub returns : goal.returns
-returns c = sym (length-replicate {0} {A = ℕ} 84215381 0)

@@ -1,7 +1,0 @@
--- The word at a place, or 0: past the end a list's element is the default.
-use mathlib.Core.Path.{sym}
-use lib.ListN.{get_or-eq_default}
-use Rattle.words.proofs.reading.word_at.Goals as goal
-
-pub returns-else-at-words : goal.returns-else-at-words
-returns-else-at-words c = sym (get_or-eq_default c.args.words.now 0 c.if-at-words.false)
