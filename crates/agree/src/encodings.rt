@@ -1,12 +1,9 @@
-// Cases about one instruction: reading it, writing it, its text. Each answers how many bytes its answer has, none where a case has more words or
-// room than there is here.
-use crate::format::{
-    LENGTH_BYTES, LENT_WORD, give_length, give_padding, give_words, mark, number, take_words,
-};
+// Cases about one instruction: reading it, writing it, its text. Each puts its answer; none where a case has more words or room than there is
+// here, or no operation has its number.
+use crate::format::{Answer, LENT_WORD, number, take_words};
 use instructions::instr::{Guard, Instr, Op};
 use naming::write_text;
 use opcodes::table::{modifier_of, op_of, opcode_of};
-use refusals::Refusal;
 use words::reading::read;
 use words::writing::write;
 
@@ -18,11 +15,11 @@ fn operation_number(op: Op) -> u32 {
     opcode_of(op) * 16 + modifier_of(op)
 }
 
-// An instruction's nine numbers.
-fn give_instruction(out: &mut [u8], at: usize, instr: Instr) -> usize {
+// Puts an instruction's nine numbers.
+fn put_instruction(to: &mut Answer, instr: Instr) {
     let op = instr.op;
     let guard = instr.guard;
-    let numbers = [
+    to.put(&[
         operation_number(op),
         instr.rd as u32,
         instr.rs1 as u32,
@@ -32,32 +29,30 @@ fn give_instruction(out: &mut [u8], at: usize, instr: Instr) -> usize {
         instr.scope as u32,
         guard.pred as u32,
         u32::from(guard.negate),
-    ];
-    give_words(out, at, &numbers)
+    ]);
 }
 
-// What the words say, which are taken from the case.
-fn read_words(case: &[u8], words: &mut [u32], out: &mut [u8]) -> usize {
+// Puts what the words say, which are taken from the case.
+fn read_words(case: &[u8], words: &mut [u32], to: &mut Answer) {
     take_words(case, 4, words);
     match read(words) {
         Ok(found) => {
-            let at = give_length(out, 0, Ok(found.words as usize));
-            give_instruction(out, at, found.instr)
+            to.put_length(Ok(found.words as usize));
+            put_instruction(to, found.instr);
         }
         Err(refusal) => {
-            let at = give_length(out, 0, Err(refusal));
-            give_words(out, at, &[0; 9])
+            to.put_length(Err(refusal));
+            to.put(&[0; 9]);
         }
     }
 }
 
 // The instruction that a case's words start with.
-pub(crate) fn answer_read(case: &[u8], out: &mut [u8]) -> usize {
+pub(crate) fn answer_read(case: &[u8], to: &mut Answer) -> Option<()> {
     let mut words = [0u32; MOST_WORDS];
-    match words.get_mut(..number(case, 0) as usize) {
-        Some(words) => read_words(case, words, out),
-        None => 0,
-    }
+    let words = words.get_mut(..number(case, 0) as usize)?;
+    read_words(case, words, to);
+    Some(())
 }
 
 // A field of an instruction, which has one byte.
@@ -89,10 +84,11 @@ fn guard_of(case: &[u8]) -> Guard {
     }
 }
 
-// The instruction of a case.
-fn instruction_of(case: &[u8], op: Op) -> Instr {
-    Instr {
-        op,
+// The instruction of a case; none where no operation has its number.
+fn instruction_of(case: &[u8]) -> Option<Instr> {
+    let operation = number(case, 0);
+    Some(Instr {
+        op: op_of(operation / 16, operation % 16)?,
         guard: guard_of(case),
         rd: field(number(case, 1)),
         rs1: field(number(case, 2)),
@@ -100,46 +96,21 @@ fn instruction_of(case: &[u8], op: Op) -> Instr {
         rs3: field(number(case, 4)),
         scope: field(number(case, 6)),
         number: number(case, 5),
-    }
+    })
 }
 
-// The words of an operation with a case's fields, in the room that is lent; the room's words are part of the answer.
-fn write_words(case: &[u8], op: Op, room: &mut [u32], out: &mut [u8]) -> usize {
-    let wrote = write(instruction_of(case, op), room);
-    let at = give_length(out, 0, wrote);
-    give_words(out, at, room)
-}
-
-// The words of a case's instruction, written in a room of A5.
-pub(crate) fn answer_write(case: &[u8], out: &mut [u8]) -> usize {
-    let operation = number(case, 0);
-    let Some(op) = op_of(operation / 16, operation % 16) else {
-        return 0;
-    };
+// The words of a case's instruction, written in a room of A5. The room's words are part of the answer.
+pub(crate) fn answer_write(case: &[u8], to: &mut Answer) -> Option<()> {
+    let instr = instruction_of(case)?;
     let mut room = [LENT_WORD; MOST_WORDS];
-    match room.get_mut(..number(case, 9) as usize) {
-        Some(room) => write_words(case, op, room, out),
-        None => 0,
-    }
-}
-
-// Writes the text of an instruction in a room of A5.
-fn text_in(instr: Instr, room: &mut [u8]) -> Result<usize, Refusal> {
-    mark(room);
-    write_text(instr, room)
+    let room = room.get_mut(..number(case, 9) as usize)?;
+    to.put_length(write(instr, room));
+    to.put(room);
+    Some(())
 }
 
 // The text of a case's instruction. The bytes of the room that it is written in are part of the answer.
-pub(crate) fn answer_text(case: &[u8], out: &mut [u8]) -> usize {
-    let operation = number(case, 0);
-    let Some(op) = op_of(operation / 16, operation % 16) else {
-        return 0;
-    };
-    let end = LENGTH_BYTES + number(case, 9) as usize;
-    if out.len() < end {
-        return 0;
-    }
-    let wrote = text_in(instruction_of(case, op), &mut out[LENGTH_BYTES..end]);
-    give_length(out, 0, wrote);
-    give_padding(out, end)
+pub(crate) fn answer_text(case: &[u8], to: &mut Answer) -> Option<()> {
+    let instr = instruction_of(case)?;
+    to.put_written(number(case, 9) as usize, |room| write_text(instr, room))
 }

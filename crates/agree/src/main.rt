@@ -10,6 +10,7 @@ mod states;
 
 ghost use Rattle.std.specs.Prelude.{◌≡◌, length};
 
+use format::Answer;
 use numbers::get;
 
 // Read and written by `io`, which stands on two calls of the system, where std's streams bring 37.
@@ -22,30 +23,33 @@ const LONGEST_CASE: usize = 320_000;
 
 const LONGEST_ANSWER: usize = 131_072;
 
-// The answer to a case of this kind, at the start of `out`, and how many bytes it has; none for a kind that there isn't. The kinds are the
-// format's numbers, told apart here alone: an enum of them would be made and matched in this one place.
-fn answer(kind: u32, case: &[u8], out: &mut [u8]) -> usize {
+// Puts the answer to a case of this kind; none for a kind that there isn't. The kinds are the format's numbers, told apart here alone: an enum
+// of them would be made and matched in this one place.
+fn answer(kind: u32, case: &[u8], to: &mut Answer) -> Option<()> {
     match kind {
-        1 => encodings::answer_read(case, out),
-        2 => encodings::answer_write(case, out),
-        3 => replays::answer_run(case, out),
-        4 => replays::answer_key(case, out),
-        5 => days::answer_make(case, out),
-        6 => days::answer_read(case, out),
-        7 => days::answer_list(case, out),
-        8 => encodings::answer_text(case, out),
-        _ => 0,
+        1 => encodings::answer_read(case, to),
+        2 => encodings::answer_write(case, to),
+        3 => replays::answer_run(case, to),
+        4 => replays::answer_key(case, to),
+        5 => days::answer_make(case, to),
+        6 => days::answer_read(case, to),
+        7 => days::answer_list(case, to),
+        8 => encodings::answer_text(case, to),
+        _ => None,
     }
 }
 
-// Reads the numbers of a case, which fill `case`, and writes its answer. Answers whether both went well.
+// Reads the numbers of a case, which fill `case`, and writes its answer, of no bytes where there is none. Answers whether both went well.
 fn answer_case(kind: u32, case: &mut [u8], out: &mut [u8]) -> bool {
     if io::read_full(STDIN_FILENO, case) < case.len() {
         return false;
     }
-    let n = answer(kind, case, out);
-    match out.get(..n) {
-        Some(answer) => io::write_all(STDOUT_FILENO, answer),
+    let mut to = Answer::new(out);
+    if answer(kind, case, &mut to).is_none() {
+        return true;
+    }
+    match to.bytes() {
+        Some(bytes) => io::write_all(STDOUT_FILENO, bytes),
         None => false,
     }
 }

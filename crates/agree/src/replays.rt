@@ -1,15 +1,10 @@
-// Cases about runs, and about keys alone. Each answers how many bytes its answer has, none where a case has more words or room than there
-// is here.
-use crate::format::{
-    LENGTH_BYTES, give_length, give_padding, give_words, mark, number, take_words,
-};
-use crate::states::{KEY_STATE, give_outcome, give_state, outcome_of, state_at};
+// Cases about runs, and about keys alone. Each puts its answer; none where a case has more words or room than there is here.
+use crate::format::{Answer, number, take_words};
+use crate::states::{KEY_STATE, outcome_of, put_outcome, put_state, state_at};
 use key::write_key;
 use lanes::WIDEST;
-use refusals::Refusal;
 use replay::allowed::{MOST_REGISTERS, MOST_WORDS};
 use replay::doors::{launch, resume};
-use std::num::wrapping_add_usize;
 use stepping::answers::Replayed;
 use stepping::settings::Settings;
 
@@ -23,35 +18,19 @@ const MOST_LANE_WORDS: usize = (WIDEST as usize) * (MOST_REGISTERS as usize) + 1
 
 const MOST_MEMORY: usize = 2048;
 
-// Writes a key in a room of A5.
-fn write_in(kernel: u32, answer: Replayed, room: &mut [u8]) -> Result<usize, Refusal> {
-    mark(room);
-    write_key(kernel, answer, room)
-}
-
-// The key of what a run answered. The bytes of the room that it is written in are part of the answer.
-fn give_key(out: &mut [u8], at: usize, kernel: u32, answer: Replayed, room: usize) -> usize {
-    let from = wrapping_add_usize(at, LENGTH_BYTES);
-    let end = wrapping_add_usize(from, room);
-    if end < from {
-        return 0;
-    }
-    if out.len() < end {
-        return 0;
-    }
-    let wrote = write_in(kernel, answer, &mut out[from..end]);
-    give_length(out, at, wrote);
-    give_padding(out, end)
+// Puts the key of what a run answered. The bytes of the room that it is written in are part of the answer.
+fn put_key(to: &mut Answer, kernel: u32, answer: Replayed, room: u32) -> Option<()> {
+    to.put_written(room as usize, |lent| write_key(kernel, answer, lent))
 }
 
 // The key of a case's outcome and state.
-pub(crate) fn answer_key(case: &[u8], out: &mut [u8]) -> usize {
+pub(crate) fn answer_key(case: &[u8], to: &mut Answer) -> Option<()> {
     let answer = Replayed {
         outcome: outcome_of(case),
         steps: 0,
         state: state_at(case, KEY_STATE),
     };
-    give_key(out, 0, number(case, 0), answer, number(case, 1) as usize)
+    put_key(to, number(case, 0), answer, number(case, 1))
 }
 
 // What a run's case sets beside its words.
@@ -89,11 +68,11 @@ impl<'a> Memory<'a> {
         take_words(case, at, self.local)
     }
 
-    // Puts the words as they now are, and answers the place behind them.
-    fn give(&self, out: &mut [u8], at: usize) -> usize {
-        let at = give_words(out, at, self.regs);
-        let at = give_words(out, at, self.device);
-        give_words(out, at, self.local)
+    // Puts the words as they now are.
+    fn give(&self, to: &mut Answer) {
+        to.put(self.regs);
+        to.put(self.device);
+        to.put(self.local);
     }
 }
 
@@ -114,25 +93,25 @@ fn run(case: &[u8], at: usize, code: &[u32], memory: &mut Memory) -> Replayed {
     )
 }
 
-// What a run answered, and the words that it was lent as they now are.
-fn give_run(out: &mut [u8], answer: Replayed, memory: &Memory) -> usize {
-    let at = give_outcome(out, 0, answer.outcome);
-    let at = give_words(out, at, &[answer.steps]);
-    let at = give_state(out, at, answer.state);
-    memory.give(out, at)
+// Puts what a run answered, and the words that it was lent as they now are.
+fn put_run(to: &mut Answer, answer: Replayed, memory: &Memory) {
+    put_outcome(to, answer.outcome);
+    to.put(&[answer.steps]);
+    put_state(to, answer.state);
+    memory.give(to);
 }
 
 // The run with the words of a case, for which there is as much room as they take.
-fn answer_in(case: &[u8], code: &mut [u32], memory: &mut Memory, out: &mut [u8]) -> usize {
+fn answer_in(case: &[u8], code: &mut [u32], memory: &mut Memory, to: &mut Answer) -> Option<()> {
     let at = take_words(case, RUN_WORDS, code);
     let at = memory.take(case, at);
     let answer = run(case, at, code, memory);
-    let at = give_run(out, answer, memory);
-    give_key(out, at, number(case, 0), answer, number(case, 10) as usize)
+    put_run(to, answer, memory);
+    put_key(to, number(case, 0), answer, number(case, 10))
 }
 
 // A run, launched or from a state, with the key of its outcome.
-pub(crate) fn answer_run(case: &[u8], out: &mut [u8]) -> usize {
+pub(crate) fn answer_run(case: &[u8], to: &mut Answer) -> Option<()> {
     let mut code = [0u32; MOST_CODE];
     let mut regs = [0u32; MOST_LANE_WORDS];
     let mut device = [0u32; MOST_MEMORY];
@@ -142,11 +121,7 @@ pub(crate) fn answer_run(case: &[u8], out: &mut [u8]) -> usize {
         device: &mut device[..],
         local: &mut local[..],
     };
-    match (
-        code.get_mut(..number(case, 5) as usize),
-        room.room_for(case),
-    ) {
-        (Some(code), Some(mut memory)) => answer_in(case, code, &mut memory, out),
-        _ => 0,
-    }
+    let code = code.get_mut(..number(case, 5) as usize)?;
+    let mut memory = room.room_for(case)?;
+    answer_in(case, code, &mut memory, to)
 }

@@ -1,5 +1,5 @@
 // Outcomes and states as numbers of cases and answers.
-use crate::format::{give_words, low, number, take_words};
+use crate::format::{Answer, low, number, take_words};
 use faulting::faults::{Faults, KINDS, from_lanes, lanes_of_kind, no_faults};
 use packing::{STATE_WORDS, state_of, word_count, words_of};
 use refusals::Refusal;
@@ -13,7 +13,7 @@ pub(crate) const KEY_STATE: usize = KEY_FAULTS + 4 * KINDS;
 
 // Puts an outcome's numbers: which it is, a refusal's number and place, and the lanes of each kind of fault. Which it is the format says by a
 // number, made here and read in `outcome_of` alone.
-pub(crate) fn give_outcome(out: &mut [u8], at: usize, outcome: Outcome) -> usize {
+pub(crate) fn put_outcome(to: &mut Answer, outcome: Outcome) {
     let unbroken = Refusal {
         number: 0,
         place: 0,
@@ -24,19 +24,18 @@ pub(crate) fn give_outcome(out: &mut [u8], at: usize, outcome: Outcome) -> usize
         Outcome::Fault(faults) => (2, unbroken, faults),
         Outcome::Refused(refusal) => (3, refusal, no_faults()),
     };
-    let mut at = give_words(out, at, &[which, refusal.number, low(refusal.place)]);
+    to.put(&[which, refusal.number, low(refusal.place)]);
     for kind in 1..=KINDS {
-        at = give_words(out, at, &[lanes_of_kind(kind, faults)]);
+        to.put(&[lanes_of_kind(kind, faults)]);
     }
-    at
 }
 
 // Puts a state's words, of its blocks the first 32.
-pub(crate) fn give_state(out: &mut [u8], at: usize, state: State) -> usize {
+pub(crate) fn put_state(to: &mut Answer, state: State) {
     let hot = state.hot;
     let words = words_of(state);
     let n = word_count(hot.depth);
-    give_words(out, at, &words[..n])
+    to.put(&words[..n]);
 }
 
 // The lanes of each kind of fault in a key's case.
