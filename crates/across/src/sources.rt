@@ -14,7 +14,7 @@ pub(crate) struct Sources<'a> {
 }
 
 impl<'a> Sources<'a> {
-    // What a lane brings: its number, and `idle` where it doesn't execute.
+    // What a lane brings: its number, and `idle` where it doesn't execute. The lane is asked to be below the widest as an index is.
     pub(crate) fn bring(&self, lane: u32, idle: u32) -> u32
         requires { lane < widest }
         ensures { result ≡ brought idle self.now.t (λ j. get_or self.now.numbers.now j 0) lane }

@@ -1,5 +1,5 @@
 // Quotients and remainders. By zero the quotient is 0 and the remainder the dividend. One signed quotient, of the least number by -1,
-// is no signed number: it is handled apart.
+// is no signed number: it is handled apart, as page 01 names the form, and not by `wrapping_div`.
 ghost use Rattle.std.specs.Prelude.{◌≡◌};
 ghost use Rattle.arith.specs.Arith.{two_of};
 

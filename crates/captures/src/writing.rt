@@ -40,7 +40,8 @@ fn fits(words: Parts<&[u32]>) -> bool
         & state_fits(words.state)
 }
 
-// The counts of words that a file has. No `try_from`: `fits` has tested each count with the state's words, and a second refusal here would never come.
+// The counts of words that a file has. No `try_from`: `fits` has tested each count with the state's words, and a second refusal here would
+// never come.
 fn counts(words: Parts<&[u32]>) -> Parts<u32>
     requires { Small (counts_of (words_in words)) }
     ensures { in_order result ≡ counts_of (words_in words.entry) }

@@ -1,4 +1,5 @@
 // One lane of a set, for lanes that are known to be below the widest wave's: a test and a mark that cost one shift.
+// They ask for that as an index asks for its bound: what they are called with is the counter of a loop over a width.
 ghost use Rattle.std.specs.Prelude.{◌≡◌, ◌&&◌, cond, ◌<◌};
 ghost use Rattle.lanes.specs.Sets.{widest, has, only};
 

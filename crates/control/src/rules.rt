@@ -1,5 +1,6 @@
 // The control rules, each on the hot numbers by value and the lent open blocks. Where checked code would not let an instruction stand the
 // rules are total all the same: with no block to work on a rule goes on to the next place, and with no room for one more it opens none.
+// No one state holds both: lent or answered with its blocks, it would bring the hot numbers into memory at each step.
 use lanes::Lanes;
 use wave::state::Hot;
 

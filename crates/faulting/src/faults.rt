@@ -75,7 +75,7 @@ pub fn is_clear(f: Faults) -> bool
     f == no_faults()
 }
 
-// The lanes of a kind, by its number; none where there is no such kind.
+// The lanes of a kind, by its number, which may be any, as its promise has it; none where there is no such kind.
 #[tactic(auto, unfolding(crate::specs::Kinds::lanes_among))]
 pub fn lanes_of_kind(kind: usize, f: Faults) -> Lanes
     ensures { result ≡ lanes_of_kind kind f }

@@ -50,7 +50,6 @@ pub fn each(number: u32, width: u32) -> ByLane
 {
     let end = narrowed(width) as usize;
     let mut out = [0u32; EACH_LANE];
-    // The library has no `fill` of a slice.
     for i in 0..end {
         out[i] = number;
     }

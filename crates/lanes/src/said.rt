@@ -24,7 +24,7 @@ pub struct Block {
     pub left: Lanes,
 }
 
-// A fault kind, by the number that a key has for it, and its lanes.
+// A fault kind, by the number that a key has for it, and its lanes. A number and no enum: bytes that are no body are read too, and may have any.
 #[derive(Clone, Copy)]
 pub struct Fault {
     pub kind: u32,

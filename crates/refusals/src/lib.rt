@@ -67,7 +67,8 @@ impl Rule {
     }
 }
 
-// The number of the rule that is broken, and where.
+// The number of the rule that is broken, and where. A number and no `Rule`: a key is asked for of any answer, and the program `agree` hands in
+// refusals of any number.
 #[derive(Clone, Copy, Debug, PartialEq, Eq)]
 pub struct Refusal {
     pub number: u32,

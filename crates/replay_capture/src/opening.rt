@@ -100,8 +100,9 @@ fn replay_in(
     }
 }
 
-// The same with room for so many words of each memory, at most the large rooms' (an array has fewer bytes than 2^63). All five rooms stand here: were the smaller ones made in `replay_in`, this would be small
-// enough for the compiler to make it part of its caller, and the large rooms would be on the stack of every run.
+// The same with room for so many words of each memory, at most the large rooms' (an array has fewer bytes than 2^63). All five rooms stand
+// here: were the smaller ones made in `replay_in`, this would be small enough for the compiler to make it part of its caller, and the large
+// rooms would be on the stack of every run.
 fn replay_within<const DEVICE: usize, const LOCAL: usize>(
     rt: &HostRuntime,
     asked: Asked,

@@ -31,8 +31,9 @@ pub struct Hot {
     pub depth: u32,
 }
 
-// A wave's whole state. What stands in `blocks` past the open blocks does not count: nothing allocates, so their count stands beside them. A block's part stays a number: any state may be handed
-// in to `resume`, which refuses what does not fit, so a type of three parts would ask more of callers.
+// A wave's whole state. What stands in `blocks` past the open blocks does not count: nothing allocates, so their count stands beside them.
+// A block's part stays a number: any state may be handed in to `resume`, which refuses what does not fit, so a type of three parts would
+// ask more of callers.
 #[derive(Clone, Copy)]
 pub struct State {
     pub hot: Hot,
