@@ -4,3 +4,4 @@ pub mod Combined
 pub mod Each
 pub mod Sizes
 pub mod Words
+pub mod Putting
