@@ -4,7 +4,7 @@ use native.Mathlib.Nat.{le-suc}
 use lib.Signed.{mag, shr_z, nat_abs-le}
 use mir.Facts.{sfits_to_z, sfits_widen}
 use Rattle.arith.specs.Arith.{signed, register}
-use Rattle.arith.proofs.Registers.{back, Read, written}
+use Rattle.arith.proofs.Registers.{back, Read, read_back, written}
 
 -- ---- the size of a product, and of a number that is shifted
 
@@ -49,6 +49,12 @@ number_fits : {a : ℕ} → Fits w32 a → SFits w64 (signed a)
 number_fits f = sfits_widen tt (sfits_to_z f)
 
 module _ {a : ℕ} {z : ℤ} (r : Read a z) where
+  pub widened_fits : SFits w64 (back z)
+  widened_fits = rw (read_back r) (number_fits r.fits)
+
+  pub widened : wide (back z) ≡ signed a
+  widened = to_z-of_z widened_fits ∙ read_back r
+
   wide_read : wide z ≡ signed a
   wide_read = ap wide r.is ∙ to_z-of_z (number_fits r.fits)
 
@@ -62,6 +68,12 @@ module _ {a b : ℕ} {x y : ℤ} (p : Read a x) (q : Read b y) where
   shifted =
       rw (multiplied, to_z-of_z (product_fits a b p.fits q.fits))
       (to_z-of_z {w = w64} (sfits_widen (tt {0}) (half_fits a b p.fits q.fits)))
+
+  pub asked_product : SFits w64 (wide x *ℤ wide y)
+  asked_product = rw multiplied (product_fits a b p.fits q.fits)
+
+  pub asked_half : SFits w32 (wide (shr_z (wide (wide x *ℤ wide y)) (2 ^ 32)))
+  asked_half = rw shifted (half_fits a b p.fits q.fits)
 
   pub half : register (back (wide (shr_z (wide (wide x *ℤ wide y)) (2 ^ 32)))) ≡ register (shr_z (signed a *ℤ signed b) (2 ^ 32))
   half = written shifted (half_fits a b p.fits q.fits)
