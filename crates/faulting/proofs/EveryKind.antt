@@ -3,10 +3,10 @@
 use mathlib.Core.Path.{◌≡◌, refl, sym, ap, ◌∙◌, subst}
 use mathlib.Core.Bool.{Bool, true, false, ◌&&◌, ◌||◌, cond, and-true}
 use mathlib.Core.List.{List, [], ◌∷◌}
-use Prim.Native.Nat.{ℕ, zero, suc, ◌≤◌, ◌<◌}
+use Prim.Native.Nat.{ℕ, zero, suc, ◌+◌, ◌-◌, ◌≤◌, ◌<◌}
 use native.Mathlib.Omega.{arith}
 use lib.Dec.{eqb}
-use lib.ListN.{length}
+use lib.ListN.{length, get_or}
 use borrow.Author.Tests.{eq-eqb, eqb-true, ne_eqb}
 use Rattle.ground.proofs.Bools.{never, and_left, and_right}
 use Rattle.ground.proofs.Choices.{cond_by}
@@ -51,6 +51,19 @@ module _ (f g : ℕ → ℕ) (same : (k : ℕ) → f (suc k) ≡ g (suc k)) wher
   pub faults_same : of_kinds f ≡ of_kinds g
   faults_same = λ i. of_kinds (λ k. numbered_same k i)
 
+-- kind by kind, of the kinds that there are
+pub each_same : (f g : ℕ → ℕ) → ((k : ℕ) → 1 ≤ k → k ≤ kinds → f k ≡ g k) → of_kinds f ≡ of_kinds g
+each_same f g same =
+    λ i.
+    record {
+      odd = same 1 (omega arith) (omega arith) i;
+      device = same 2 (omega arith) (omega arith) i;
+      local = same 3 (omega arith) (omega arith) i;
+      divisor = same 4 (omega arith) (omega arith) i;
+      barrier = same 5 (omega arith) (omega arith) i;
+      over = same 6 (omega arith) (omega arith) i;
+    }
+
 -- ---- the lanes of a kind
 
 in_table : (P : ℕ → Type 0) (lanes : ℕ → ℕ) (k : ℕ) → P (lanes k) → P 0 → (ks : List ℕ) → P (lanes_among k (table lanes ks))
@@ -67,11 +80,40 @@ unfolding lanes_among
 of_each_kind P lanes p z zero = z 0
 of_each_kind P lanes p z (suc k) = in_table (P (suc k)) lanes (suc k) (p k) (z (suc k)) kind_numbers
 
--- a number that a table doesn't have, below it
+-- a number that a table doesn't have, below it or above it
 below_table : (lanes : ℕ → ℕ) (k n c : ℕ) → k < n → lanes_among k (table lanes (up_from n c)) ≡ 0
 unfolding lanes_among
 below_table lanes k n zero h = refl
 below_table lanes k n (suc c) h = rw (ne_eqb n k (λ e. omega arith)) (below_table lanes k (suc n) c (omega arith))
+
+above_table : (lanes : ℕ → ℕ) (k n c : ℕ) → n + c ≤ k → lanes_among k (table lanes (up_from n c)) ≡ 0
+unfolding lanes_among
+above_table lanes k n zero h = refl
+above_table lanes k n (suc c) h = rw (ne_eqb n k (λ e. omega arith)) (above_table lanes k (suc n) c (omega arith))
+
+-- no kind has number 0, and none a number above their count
+pub no_low_kind : (k : ℕ) (f : Faults) → k < 1 → lanes_of_kind k f ≡ 0
+no_low_kind k f h = ap (lanes_among k) (every_table f) ∙ below_table (λ j. lanes_of_kind j f) k 1 kinds h
+
+pub no_high_kind : (k : ℕ) (f : Faults) → kinds < k → lanes_of_kind k f ≡ 0
+no_high_kind k f h = ap (lanes_among k) (every_table f) ∙ above_table (λ j. lanes_of_kind j f) k 1 kinds (omega arith)
+
+-- the lanes alone, kind by kind, and those of one
+abbrev values : (ℕ → ℕ) → List ℕ → List ℕ
+values lanes [] = []
+values lanes (k ∷ ks) = lanes k ∷ values lanes ks
+
+value_at : (lanes : ℕ → ℕ) (n c j : ℕ) → j < c → get_or (values lanes (up_from n c)) j 0 ≡ lanes (n + j)
+value_at lanes n zero j h = absurd (omega arith)
+value_at lanes n (suc c) zero h = let e : n + 0 ≡ n = omega arith in rw e refl
+value_at lanes n (suc c) (suc j) h = let e : n + suc j ≡ suc n + j = omega arith in rw e (value_at lanes (suc n) c j (omega arith))
+
+pub lanes_at : (f : Faults) (k : ℕ) → 1 ≤ k → k ≤ kinds
+    → get_or (f.odd ∷ f.device ∷ f.local ∷ f.divisor ∷ f.barrier ∷ f.over ∷ []) (k - 1) 0 ≡ lanes_of_kind k f
+unfolding lanes_among
+lanes_at f k a b =
+    let e : 1 + (k - 1) ≡ k = omega arith in
+    value_at (λ j. lanes_of_kind j f) 1 kinds (k - 1) (omega arith) ∙ ap (λ (j : ℕ). lanes_of_kind j f) e
 
 -- ---- the kinds that have lanes
 

@@ -35,7 +35,7 @@ named_past words named address e h =
     ∙ lt-leb 0x40000000 (word_of address) h ∙ sym (lt-leb words (word_of address) (omega arith)))
 
 -- so that the kinds of addresses are the same
-named_kinds : (s : Space) (W t words named offset : ℕ) (at : List ℕ) → named ≡ min words 0x40000000
+pub named_kinds : (s : Space) (W t words named offset : ℕ) (at : List ℕ) → named ≡ min words 0x40000000
     → kinds_of W t (λ i. sum_fault s named (base_of (get_or at i 0) offset) offset) ≡ kinds_of W t (λ i. sum_fault s words (base_of (get_or at i 0) offset) offset)
 named_kinds s W t words named offset at e =
     kinds_same W t _ _
@@ -46,7 +46,7 @@ named_kinds s W t words named offset at e =
 
 -- ---- a loop that asks p of every number of a list: what the numbers left still decide
 
-asked_more : (p : ℕ → Bool) (l : List ℕ) (k : ℕ) (all next : Bool) → k < length l → all_of p l ≡ (all && all_of p (drop k l))
+pub asked_more : (p : ℕ → Bool) (l : List ℕ) (k : ℕ) (all next : Bool) → k < length l → all_of p l ≡ (all && all_of p (drop k l))
     → next ≡ (all && p (get_or l k 0)) → all_of p l ≡ (next && all_of p (drop (k + 1) l))
 unfolding all_of
 asked_more p l k all next h e n =
@@ -99,7 +99,7 @@ module _ (offset words : ℕ) where
     apiece true false x y = and-false x
     apiece true true x y = refl
 
-    reach_more : (eqb (bit_or bits address % 4) 0 && is_below (max top (base_of address offset)))
+    pub reach_more : (eqb (bit_or bits address % 4) 0 && is_below (max top (base_of address offset)))
         ≡ ((eqb (bits % 4) 0 && is_below top) && in_reach offset words address)
     reach_more = rw (bits_more, top_more (base_of address offset)) (apiece (eqb (bits % 4) 0) (is_below top) _ _)
 

@@ -1,6 +1,6 @@
 -- A sum that reaches 2^32 wraps round to below its offset, and no other sum is below its offset: so the wrapped sum tells the fault.
 use mathlib.Core.Path.{◌≡◌, sym, ap, ◌∙◌}
-use mathlib.Core.Bool.{false}
+use mathlib.Core.Bool.{false, cond}
 use mathlib.Core.Logic.{dite}
 use Prim.Native.Nat.{ℕ, ◌+◌, ◌^◌, ◌<◌}
 use native.Mathlib.Decide.{dec_lt}
@@ -27,6 +27,11 @@ base_told base offset b o = omega arith
 
 pub address_told : (address offset : ℕ) → address < 2 ^ 32 → offset < 2 ^ 32 → address_of (base_of address offset) offset ≡ address
 address_told address offset a o = omega arith
+
+pub address_tells : (s : Space) (words address offset : ℕ) → address < 2 ^ 32 → offset < 2 ^ 32
+    → sum_fault s words (base_of address offset) offset ≡ cond (is_over (base_of address offset) offset) 6 (address_fault s words address)
+address_tells s words address offset a o =
+    ap (λ (n : ℕ). cond (is_over (base_of address offset) offset) 6 (address_fault s words n)) (address_told address offset a o)
 
 -- without an offset the base is the address
 pub no_offset : (s : Space) (words address : ℕ) → address < 2 ^ 32 → sum_fault s words (base_of address 0) 0 ≡ address_fault s words address
