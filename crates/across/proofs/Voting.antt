@@ -32,7 +32,7 @@ rest_of true false z = refl
 rest_of false true z = refl
 rest_of false false z = refl
 
-others_zero : (W t : ℕ) (f : ℕ → ℕ) (every told set : ℕ) → W ≤ widest → every ≡ bit_and t (first (min W widest)) → told ≡ nonzero W t f
+pub others_zero : (W t : ℕ) (f : ℕ → ℕ) (every told set : ℕ) → W ≤ widest → every ≡ bit_and t (first (min W widest)) → told ≡ nonzero W t f
     → set ≡ without every told → set ≡ zeros W t f
 unfolding nonzero zeros
 others_zero W t f every told set n e v h =

@@ -15,7 +15,7 @@ abbrev pub walked : (List Block → List Block) → ℕ → List Block → List 
 walked f i xs = laid (f (opened xs i)) (drop i xs)
 
 -- what stands below a store is not touched
-opened_set : (xs : List Block) (k n : ℕ) (b : Block) → n ≤ k → opened (set xs k b) n ≡ opened xs n
+pub opened_set : (xs : List Block) (k n : ℕ) (b : Block) → n ≤ k → opened (set xs k b) n ≡ opened xs n
 opened_set xs k zero b h = refl
 opened_set xs k (suc n) b h = rw (get_or-set_other xs k n b no_block (omega arith), opened_set xs k n b (omega arith))
 
@@ -44,6 +44,13 @@ length-to_loop f t (b ∷ p) = by_case (is_loop b) (length-to_loop f t p)
     by_case : (c : Bool) → length (to_loop f t p) ≡ length p → length (cond c (f b ∷ p) (leave t b ∷ to_loop f t p)) ≡ suc (length p)
     by_case true e = refl
     by_case false e = ap suc e
+
+pub walked_none : (g : List Block → List Block) (xs : List Block) (i : ℕ) → g [] ≡ [] → i ≡ 0 → walked g i xs ≡ xs
+walked_none g xs i e z = rw (z, e)
+
+-- the end of the search: d is the depth m that was read
+pub number_none : (xs ys : List Block) (i d m : ℕ) → i ≡ 0 → d ≡ m → loop_at (opened ys i) ≡ loop_at (opened xs d) → None ≡ loop_at (opened xs m)
+number_none xs ys i d m z e v = let w : None ≡ loop_at (opened xs d) = rw z at v in rw e at w
 
 -- the walk over all d open blocks lays what it makes of them over the array
 pub walked_over : (t : ℕ) (xs : List Block) (d : ℕ) → walked (to_loop same t) d xs ≡ over (to_loop same t (opened xs d)) xs

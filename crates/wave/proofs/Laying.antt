@@ -18,6 +18,10 @@ pub get_laid : (p rest : List Block) (n j : ℕ) → n ≡ length p + j → get_
 get_laid [] rest n j e = ap (λ (k : ℕ). get_or rest k no_block) (omega arith)
 get_laid (b ∷ p) rest n j e = get_laid p (b ∷ rest) n (suc j) (omega arith)
 
+pub laid_append : (p q r : List Block) → laid p (q ++ r) ≡ laid p q ++ r
+laid_append [] q r = refl
+laid_append (b ∷ p) q r = laid_append p (b ∷ q) r
+
 -- ---- the first n blocks of an array
 pub length-opened : (xs : List Block) (n : ℕ) → length (opened xs n) ≡ n
 length-opened xs zero = refl
