@@ -1,8 +1,9 @@
 -- The writer. Its turn at a lane, as the code takes it; and what it leaves in each register, by the laws of `slot` alone.
-use mathlib.Core.Path.{◌≡◌, refl, ap, ◌∙◌}
+use mathlib.Core.Path.{◌≡◌, refl, sym, ap, ◌∙◌}
 use mathlib.Core.Bool.{Bool, true, false, ◌&&◌, cond}
 use mathlib.Core.List.{List}
-use Prim.Native.Nat.{ℕ, zero, suc, ◌≤◌, ◌<◌}
+use Prim.Native.Nat.{ℕ, zero, suc, ◌≤◌, ◌<◌, min}
+use native.Mathlib.Nat.{min-eq_left}
 use native.Mathlib.Decide.{ℕ_discrete}
 use native.Mathlib.Omega.{arith}
 use lib.Dec.{eqb}
@@ -13,7 +14,7 @@ use Rattle.ground.specs.Lists.{in_order}
 use Rattle.ground.proofs.Lists.{length-in_order}
 use Rattle.ground.proofs.Turns.{Turned, length-turned}
 use Rattle.ground.proofs.Choices.{cond_by, set_cond, length_set_cond}
-use Rattle.lanes.specs.Sets.{has, first}
+use Rattle.lanes.specs.Sets.{widest, has, first}
 use Rattle.lanes.proofs.Members.{has_first}
 use Rattle.compute.specs.declared.Shape.{Shape}
 use Rattle.compute.specs.Registers.{slot_in, write_turn, write_lanes, Stands}
@@ -88,6 +89,12 @@ module _ {shape : Shape} {regs : List ℕ} {d : ℕ} (h : Stands shape regs d) (
 pub length-write_lanes : (shape : Shape) (regs : List ℕ) (d t : ℕ) (results : List ℕ) → length (write_lanes shape regs d t results) ≡ length regs
 unfolding write_lanes
 length-write_lanes shape regs d t results = length-in_order (write_turn shape d t results) (length-write_turn shape d t results) shape.width regs
+
+-- a set that is every lane below the width
+pub write_lanes_all : {shape : Shape} {regs : List ℕ} {d : ℕ} → Stands shape regs d → (t : ℕ) (results : List ℕ) → t ≡ first (min shape.width widest)
+    → write_lanes shape regs d (first shape.width) results ≡ write_lanes shape regs d t results
+write_lanes_all {shape} {regs} {d} h t results e =
+    ap (λ (s : ℕ). write_lanes shape regs d s results) (sym (e ∙ ap first (min-eq_left h.narrow)))
 
 -- a lane's register stands within the buffer, however many lanes have had their turns
 pub write_inside : {shape : Shape} {d : ℕ} {before now : List ℕ} {i : ℕ} → Stands shape before d → (t : ℕ) (results : List ℕ)
