@@ -2,7 +2,9 @@
 use mathlib.Core.Path.{◌≡◌, refl}
 use mathlib.Core.Bool.{Bool, true, false, cond}
 use Prim.Native.Nat.{ℕ}
+use native.Mathlib.Decide.{ℕ_discrete}
 use lib.Dec.{eqb}
+use borrow.Author.Tests.{ne_eqb}
 use Rattle.instructions.specs.declared.instr.Instr.{Instr}
 use Rattle.wave.specs.Wave.{Preds}
 use Rattle.compute.specs.Operands.{Lent}
@@ -27,3 +29,20 @@ chosen_same false false false ps = refl
 
 pub named_same : (k : ℕ) (ps : Preds) → with_named k (named k ps) ps ≡ ps
 named_same k ps = chosen_same (eqb k 1) (eqb k 2) (eqb k 3) ps
+
+-- each predicate by its own number: none is two of them
+third_alone : (c : Bool) (q : ℕ) (ps : Preds) → preds ps.p1 ps.p2 (cond c q ps.p3) ≡ cond c (preds ps.p1 ps.p2 q) ps
+third_alone true q ps = refl
+third_alone false q ps = refl
+
+pub named_each :
+    (k q : ℕ) (ps : Preds) → preds (cond (eqb k 1) q ps.p1) (cond (eqb k 2) q ps.p2) (cond (eqb k 3) q ps.p3) ≡ with_named k q ps
+named_each k q ps =
+    elim (ℕ_discrete k 1) [
+      | yes e ↦ rw e
+      | no e ↦ rw (ne_eqb k 1 e)
+          (elim (ℕ_discrete k 2) [
+            | yes e ↦ rw e
+            | no e ↦ rw (ne_eqb k 2 e) (third_alone (eqb k 3) q ps)
+          ])
+    ]

@@ -174,7 +174,7 @@ module _ (s : Settings) (x : Fetched) (o : ControlOp) (h : Hot) (path path' : Li
 module _ (s : Settings) (x : Fetched) {o : ControlOp} (h : Hot) {t all : ℕ} (path : List Block) (regs device local : List ℕ) (r : Stepped) {f : Faults} {path' : List Block}
     (lanes : t ≡ executing_of x.instr.guard h.active (preds_of h)) (is : control_in x.instr.op ≡ Some o) (launched : all ≡ launched_of s)
     (long : length path ≡ nesting) (rules : ruled.given r path' ≡ control_of o all t h path) (alone : f ≡ of_barrier r.barrier) where
-  went_by : given f (machine_of r.hot path' regs device local) ≡ step_of s x (machine_of h path regs device local)
+  pub went_by : given f (machine_of r.hot path' regs device local) ≡ step_of s x (machine_of h path regs device local)
   went_by =
       let q = seen o _ _ h path r _ long rules in
       rw alone (by_rule s x o h path _ _ _ _ r is (rw (launched, lanes) at q))

@@ -74,10 +74,10 @@ module _ {s : Settings} {code : List ℕ} {budget n : ℕ} {m₀ : Machine} {x :
   made : x ≡ step_at s code from
   made = t.steps ∙ ap (λ (f : Fetched). step_of s f from) t.reads
 
-  below : n < budget
+  pub below : n < budget
   below = omega (arith, t.unspent, t.going.fewer)
 
-  still_long : SameLengths x.end m₀
+  pub still_long : SameLengths x.end m₀
   still_long =
       let was = t.going.long in
       record { regs = t.same.regs ∙ was.regs; device = t.same.device ∙ was.device; local = t.same.local ∙ was.local }
