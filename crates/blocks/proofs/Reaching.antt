@@ -164,10 +164,13 @@ at_top = record { inside_is = refl; room_is = refl; loop_is = refl }
 
 -- the whole code is a level, which nothing closes
 module _ {code : Code} where
+  pub whole_closed : {at : ℕ} → LevelSays code 0 nesting None false (Ok (Some at)) → ⊥
+  whole_closed says = says.shut [] at_top refl
+
   pub whole_refused : {q : Refusal} → LevelSays code 0 nesting None false (Err q) → Err q ≡ check_of code
   whole_refused says = sym (says.same [] at_top)
 
   pub whole_passed : (end : Option ℕ) → LevelSays code 0 nesting None false (Ok end) → Ok tt ≡ check_of code
   unfolding ended
-  whole_passed (Some at) says = absurd (says.shut [] at_top refl)
+  whole_passed (Some at) says = absurd (whole_closed says)
   whole_passed None says = sym (says.same [] at_top)

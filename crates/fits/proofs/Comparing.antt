@@ -1,17 +1,20 @@
 -- The open blocks of a state against the code's, block by block, is the comparison of the two lists of blocks.
 use mathlib.Core.Path.{◌≡◌, refl, sym, ap, ◌∙◌}
-use mathlib.Core.Bool.{false, ◌&&◌, and-false}
+use mathlib.Core.Bool.{Bool, false, ◌&&◌, and_assoc, and-true, and-false}
 use mathlib.Core.List.{List, [], ◌∷◌}
-use Prim.Native.Nat.{ℕ, zero, suc, ◌≤◌, min}
-use native.Mathlib.Decide.{ℕ_discrete}
+use mathlib.Core.Logic.{dite}
+use Prim.Native.Nat.{ℕ, zero, suc, ◌-◌, ◌≤◌, ◌<◌, min}
+use native.Mathlib.Nat.{min-eq_left}
+use native.Mathlib.Decide.{dec_lt, ℕ_discrete}
 use native.Mathlib.Omega.{arith}
-use borrow.Author.Tests.{eq-eqb, ne_eqb}
+use borrow.Author.Tests.{eq-eqb, ne_eqb, lt-leb}
 use lib.ListN.{length, set}
 use Rattle.std.proofs.lemmas.Option.{none-some, same_Some}
 use Rattle.std.specs.Prelude.{Some, None}
 use lib.Seq.{get_or-set_same, get_or-set_other}
-use lib.Dec.{eqb}
+use lib.Dec.{eqb, leb}
 use Rattle.lanes.specs.Blocks.{nesting}
+use Rattle.lanes.specs.Sets.{first, widest}
 use Rattle.blocks.specs.declared.item.Reading.{Reading}
 use Rattle.nesting.specs.declared.places.OpenBlock.{OpenBlock}
 use Rattle.nesting.specs.declared.places.Stack.{Stack}
@@ -24,9 +27,21 @@ use Rattle.nesting.proofs.Stacks.{length-slots}
 use Rattle.lanes.specs.declared.said.Block.{Block}
 use Rattle.wave.specs.declared.state.Hot.{Hot}
 use Rattle.wave.specs.Layout.{opened}
-use Rattle.wave.specs.Wave.{wave_of}
-use Rattle.fits.specs.FitsTest.{agree, place_test, same_blocks}
+use Rattle.wave.specs.Wave.{wave_of, preds_of}
+use Rattle.fits.specs.FitsTest.{agree, place_test, same_block, same_blocks, sets_test, fits_test}
 use Rattle.wave.proofs.Laying.{length-opened}
+
+-- ---- the walk outward
+pub same_next : (xs : List Block) (bs : List OpenBlock) (ok t : Bool) (i : ℕ) → 0 < i → t ≡ same_block xs bs (i - 1)
+    → (ok && t && same_blocks xs bs (i - 1)) ≡ (ok && same_blocks xs bs i)
+same_next xs bs ok t zero p e = absurd (omega arith)
+same_next xs bs ok t (suc i) p e =
+    let z : suc i - 1 ≡ i = omega arith in
+    rw (e, z) (and_assoc ok (same_block xs bs i) (same_blocks xs bs i))
+
+pub same_end : (xs : List Block) (bs : List OpenBlock) (ok : Bool) (i d : ℕ) → i ≡ 0
+    → (ok && same_blocks xs bs i) ≡ same_blocks xs bs d → ok ≡ same_blocks xs bs d
+same_end xs bs ok i d z e = sym (and-true ok) ∙ rw z at e
 
 -- ---- the code's blocks in their slots
 -- what stands further in is not compared
@@ -72,3 +87,12 @@ module _ (code : List ℕ) (by : Reading) (h : Hot) (xs : List Block) where
       → (eqb s.depth d && same_blocks xs s.blocks d) ≡ place_test (open_at (code_of code by) h.place) (wave_of h xs).path
   there_tested s f e =
       rw f (found_agrees xs (min h.depth nesting) (open_at (code_of code by) h.place) s e (λ o z. at_most (code_of code by) (code_fits code by) h.place o z))
+
+-- ---- the whole test: with more lanes than the widest wave has it says no, whatever the sets
+pub tested : (code : List ℕ) (by : Reading) (n all : ℕ) (h : Hot) (xs : List Block) (placed sets : Bool) → all ≡ first (min n widest)
+    → placed ≡ place_test (open_at (code_of code by) h.place) (wave_of h xs).path → sets ≡ sets_test all (wave_of h xs) (preds_of h)
+    → (leb n widest && leb h.depth nesting && placed && sets) ≡ fits_test code by n h xs
+tested code by n all h xs placed sets e f g =
+    dite (dec_lt widest n)
+    (λ p. rw (lt-leb n widest p))
+    (λ p. let z : min n widest ≡ n = min-eq_left (omega arith) in rw (f, g, e, z))

@@ -8,13 +8,13 @@ use lib.Seq.{get_or-set_same, get_or-set_other, set-set, set-get_or}
 use lib.Dec.{ltb}
 use borrow.Author.Tests.{lt-ltb}
 use Rattle.std.specs.Prelude.{Option, Some, None}
-use Rattle.lanes.specs.Blocks.{nesting}
+use Rattle.lanes.specs.Blocks.{nesting, loop_part}
 use Rattle.refusals.specs.declared.Rule.{Rule}
 use Rattle.refusals.specs.Table.{broken}
 use Rattle.blocks.specs.declared.rules.Part.{Part}
 use Rattle.nesting.specs.declared.places.OpenBlock.{OpenBlock}
 use Rattle.nesting.specs.declared.places.Stack.{Stack}
-use Rattle.blocks.specs.Open.{Open, opened_at, in_loop, one_if_loop, loops, innermost}
+use Rattle.blocks.specs.Open.{Open, opened_at, part_number, in_loop, one_if_loop, loops, innermost}
 use Rattle.blocks.specs.Scan.{ended}
 use Rattle.nesting.specs.OpenAt.{block_of, unused, slots, stack_of}
 use Rattle.blocks.specs.Levels.{around}
@@ -97,6 +97,17 @@ one_less : (k : Part) (n : ℕ) → less_one k (one_if_loop k n) ≡ n
 one_less Part.Before n = refl
 one_less Part.After n = refl
 one_less Part.Loop n = omega arith
+
+-- by the part's number
+one_less_loop : (k : Part) (m : ℕ) → part_number k ≡ loop_part → one_if_loop k m - 1 ≡ m
+one_less_loop Part.Before m e = absurd (omega arith)
+one_less_loop Part.After m e = absurd (omega arith)
+one_less_loop Part.Loop m e = omega arith
+
+less_none : (k : Part) (m : ℕ) → (part_number k ≡ loop_part → ⊥) → one_if_loop k m ≡ m
+less_none Part.Before m e = refl
+less_none Part.After m e = refl
+less_none Part.Loop m e = absurd (e refl)
 
 pub pop : (s : Stack) (o : List Open) {k : Part} {m : ℕ} → Holds s o → (s.depth ≡ 0 → ⊥) → (get_or s.blocks (s.depth - 1) unused).part ≡ k → m ≡ less_one k s.loops
     → Holds (record { depth = s.depth - 1; loops = m; blocks = set s.blocks (s.depth - 1) unused }) (around o)

@@ -12,10 +12,17 @@ use Rattle.stepping.specs.declared.settings.Settings.{Settings}
 use Rattle.stepping.specs.declared.answers.Replayed.{Replayed}
 use Rattle.stepping.specs.Step.{launched_lanes}
 use Rattle.stepping.specs.Answer.{Answered, answered, state_machine, run_from}
-use Rattle.replay.specs.Replay.{refused_as, by_test, filled, launch_machine}
+use Rattle.replay.specs.Replay.{refused_as, by_test, then_test, filled, launch_machine}
 
 -- ---- by the verdict v of a test
 module _ {v test : Checked} (says : v ≡ test) where
+  -- the tests, one after the other
+  pub stops : (next : Checked) {r : Refusal} → v ≡ Err r → Err r ≡ then_test test next
+  stops next refuses = rw (← says) (rw refuses)
+
+  pub goes_on : (next : Checked) {x : Checked} → v ≡ Ok tt → x ≡ next → x ≡ then_test test next
+  goes_on next fine e = rw (← says) (rw fine e)
+
   -- the answer: a refusal, or the run
   pub refused_by :
       (run : Unit {0} → Answered) {refusal : Refusal} {r : Replayed} {state : State} {regs device local : List ℕ} →
