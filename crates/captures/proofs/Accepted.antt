@@ -1,6 +1,6 @@
 -- A file that breaks no rule: what the tests say of it, and what reading it leaves in the buffers.
-use mathlib.Core.Path.{◌≡◌, refl}
-use Prim.Native.Nat.{ℕ, zero, suc, ◌+◌, ◌≤◌, min}
+use mathlib.Core.Path.{◌≡◌, refl, sym, ap, ◌∙◌}
+use Prim.Native.Nat.{ℕ, zero, suc, ◌+◌, ◌≤◌, ◌<◌, min}
 use mathlib.Core.Bool.{Bool, true, false, ◌||◌}
 use mathlib.Core.List.{List, [], ◌∷◌, ◌++◌, zip_with}
 use native.Mathlib.Omega.{arith}
@@ -21,6 +21,7 @@ use Rattle.captures.specs.Capture.{mark, edition, part_count, state_part, editio
 use Rattle.captures.specs.Capture.{counts_of, head_in, counts_in, in_order, in_parts, count_place}
 use Rattle.captures.specs.Read.{settings_at, counts_at, parts_from, end_from, place_of, places_in, parts_in, depth_of, depth_place, end_place}
 use Rattle.captures.specs.Read.{Verdict, fine, next, part_order, test_head, test_rooms, test_state, verdict_of, Within, filled, told, reading, judged, read_of}
+use Rattle.captures.proofs.Parts.{parts_nth}
 use Rattle.std.specs.Prelude.{Ok, Err}
 
 -- ---- what the tests say
@@ -127,6 +128,16 @@ pub part_taken : (f o : List ℕ) (at n count : ℕ) (new : List ℕ) → count 
     → new ++ drop count o ≡ placed o 0 (numbers_at f at n)
 part_taken f o at n count new ec e = get_front f o at n count (omega arith) new e
 
+-- which is the part itself where it is read from its place
+module _ (f o : List ℕ) (n : List ℕ) (en : n ≡ counts_at f) (part at count : ℕ) (low : part < part_count) where
+  pub part_filled : (new : List ℕ) → at ≡ place_of n part → count ≡ min (get_or n part 0) (length o) → new ≡ numbers_at f at (length (take count o))
+      → new ++ drop count o ≡ placed o 0 (get_or (parts_in f) part [])
+  unfolding parts_in place_of
+  part_filled new ea ec e =
+      let l = counts_long f in
+      get_front f o at (get_or n part 0) count ec new e
+      ∙ ap (placed o 0) (rw (ea, en) (sym (parts_nth f header_bytes part (counts_at f) (omega arith))))
+
 -- of each
 module _ (f a b c d e : List ℕ) where
   pub taken : (n : Parts ℕ) → n ≡ counts_in (counts_at f) → (at : Parts ℕ) → at ≡ places_in (in_order n) → (a' b' c' d' e' : List ℕ)
@@ -136,6 +147,12 @@ module _ (f a b c d e : List ℕ) where
       → in_parts a' b' c' d' e' ≡ filled (parts_in f) (in_parts a b c d e)
   unfolding filled zip_with parts_in parts_from counts_at numbers_at counts_in places_in place_of end_from
   taken n en at ep a' b' c' d' e' ea eb ec ed ee = rw (ea, eb, ec, ed, ee, ep, en)
+
+  pub all_filled : (a' b' c' d' e' : List ℕ) → a' ≡ placed a 0 (get_or (parts_in f) 0 []) → b' ≡ placed b 0 (get_or (parts_in f) 1 [])
+      → c' ≡ placed c 0 (get_or (parts_in f) 2 []) → d' ≡ placed d 0 (get_or (parts_in f) 3 []) → e' ≡ placed e 0 (get_or (parts_in f) state_part [])
+      → in_parts a' b' c' d' e' ≡ filled (parts_in f) (in_parts a b c d e)
+  unfolding filled zip_with parts_in parts_from counts_at numbers_at
+  all_filled a' b' c' d' e' ea eb ec ed ee = rw (ea, eb, ec, ed, ee)
 
 -- ---- the answer
 

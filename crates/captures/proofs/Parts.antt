@@ -1,8 +1,9 @@
 -- Parts that stand one behind another: where each begins and where they end, and that what is read there is the parts.
-use mathlib.Core.Path.{◌≡◌, refl, ap, ap₂}
+use mathlib.Core.Path.{◌≡◌, refl, sym, ap, ap₂}
 use Prim.Native.Nat.{ℕ, zero, suc, ◌+◌, ◌*◌, ◌≤◌, ◌<◌}
 use mathlib.Core.List.{List, [], ◌∷◌, flatten}
 use native.Mathlib.Omega.{arith}
+use native.Mathlib.Numerals.{add-one}
 use lib.ListN.{length, get_or, take, length-append}
 use lib.Seq.{take_all}
 use Rattle.numbers.specs.Numbers.{numbers_at, Bytes, Small}
@@ -23,9 +24,25 @@ unfolding end_from flatten
 end_length at [] = omega arith
 end_length at (p ∷ ps) = omega (arith, end_length (at + 4 * length p) ps, length-append p (flatten ps))
 
--- ---- where the file ends
+-- ---- where a part begins, and the file ends
+
+end_more : (at k : ℕ) (ns : List ℕ) → end_from at (take (suc k) ns) ≡ end_from at (take k ns) + 4 * get_or ns k 0
+unfolding end_from
+end_more at zero [] = omega arith
+end_more at (suc k) [] = omega arith
+end_more at zero (n ∷ ns) = refl
+end_more at (suc k) (n ∷ ns) = end_more (at + 4 * n) k ns
 
 module _ (ns : List ℕ) where
+  pub place_none : header_bytes ≡ place_of ns 0
+  unfolding place_of end_from
+  place_none = refl
+
+  -- behind one part more
+  pub place_more : (at k : ℕ) → at ≡ place_of ns k → at + 4 * get_or ns k 0 ≡ place_of ns (k + 1)
+  unfolding place_of
+  place_more at k e = rw (add-one k, e) (sym (end_more header_bytes k ns))
+
   -- behind all
   pub place_end : length ns ≡ part_count → place_of ns part_count ≡ end_from header_bytes ns
   unfolding place_of

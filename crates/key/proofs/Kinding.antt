@@ -1,8 +1,8 @@
 -- The fault kinds: how many have lanes, and those that have, put kind after kind as the loops go.
 use mathlib.Core.Path.{◌≡◌, refl, sym, ap, ◌∙◌, subst}
-use Prim.Native.Nat.{ℕ, zero, suc, ◌+◌, ◌-◌, ◌≤◌, ◌<◌}
+use Prim.Native.Nat.{ℕ, zero, suc, ◌+◌, ◌-◌, ◌*◌, ◌≤◌, ◌<◌}
 use mathlib.Core.Bool.{Bool, true, false, cond}
-use mathlib.Core.List.{List, [], ◌∷◌, ◌++◌, append-nil, append_assoc}
+use mathlib.Core.List.{List, [], ◌∷◌, ◌++◌, append-nil, append_assoc, flat_map}
 use native.Mathlib.Numerals.{add-one}
 use native.Mathlib.Omega.{arith}
 use borrow.Author.Tests.{eq-eqb, ne_eqb}
@@ -13,8 +13,11 @@ use Rattle.ground.proofs.Bools.{and_both}
 use Rattle.ground.proofs.Choices.{cond_by}
 use Rattle.numbers.specs.Numbers.{bound}
 use Rattle.formats.specs.Format.{number, both, seen_as}
+use Rattle.formats.proofs.Sizes.{times_long}
 use Rattle.lanes.specs.declared.said.Fault.{Fault}
 use Rattle.body.specs.Body.{fault_format, set_bytes}
+use Rattle.body.specs.Layout.{fault_bytes}
+use Rattle.body.proofs.Formats.{fault_takes}
 use Rattle.faulting.specs.declared.faults.Faults.{Faults}
 use Rattle.faulting.specs.Kinds.{fault, kinds, with_lanes, listed, lanes_of_kind}
 use Rattle.faulting.proofs.EveryKind.{up_from, table, every_table}
@@ -79,6 +82,14 @@ one k l = with_lanes (fault k l ∷ [])
 kinds_with : (t : Bool) (x : Fault) (rest : List Fault) → cond t rest (x ∷ rest) ≡ cond t [] (x ∷ []) ++ rest
 kinds_with true x rest = refl
 kinds_with false x rest = refl
+
+length-one : (t : Bool) (x : Fault) → length (cond t [] (x ∷ [])) ≤ 1
+length-one true x = omega arith
+length-one false x = omega arith
+
+-- the bytes of fault kinds
+pub kinds_long : (fs : List Fault) → length (flat_map (fault_format set_bytes).write fs) ≡ fault_bytes set_bytes * length fs
+kinds_long = times_long (fault_takes set_bytes)
 
 -- a kind and its lanes, put as two numbers
 fault_put : {k l : ℕ} {o now : List ℕ} → Put (both (number 4) (number set_bytes)) (k, l) o now → Put (fault_format set_bytes) (fault k l) o now

@@ -1,7 +1,7 @@
 -- The open blocks outermost first are the first blocks of the state's array.
 use mathlib.Core.Path.{◌≡◌, refl, sym, ap, ◌∙◌}
 use Prim.Native.Nat.{ℕ, zero, suc, ◌≤◌}
-use mathlib.Core.List.{List, [], ◌∷◌, ◌++◌, reverse, reverse-cons}
+use mathlib.Core.List.{List, [], ◌∷◌, ◌++◌, append_assoc, flat_map, reverse, reverse-cons}
 use native.Mathlib.Omega.{arith}
 use lib.ListN.{length, take, length-reverse}
 use lib.Seq.{take-suc}
@@ -11,6 +11,16 @@ use Rattle.wave.specs.Layout.{no_block, block_at, opened}
 use Rattle.wave.specs.Wave.{Wave, Preds, state_of}
 use Rattle.wave.proofs.Laying.{length-opened, opened_laid}
 use Rattle.key.specs.Key.{blocks_of}
+use Rattle.key.proofs.Numbers.{six_of}
+
+sixes_append : (bs cs : List Block) → flat_map six_of (bs ++ cs) ≡ flat_map six_of bs ++ flat_map six_of cs
+unfolding flat_map
+sixes_append [] cs = refl
+sixes_append (b ∷ bs) cs = ap (λ (l : List ℕ). six_of b ++ l) (sixes_append bs cs) ∙ sym (append_assoc (six_of b) (flat_map six_of bs) (flat_map six_of cs))
+
+one_six : (b : Block) → flat_map six_of (b ∷ []) ≡ b.part ∷ b.opener ∷ b.entered ∷ b.aside ∷ b.again ∷ b.left ∷ []
+unfolding flat_map
+one_six b = refl
 
 outermost_first : (xs : List Block) (n : ℕ) → n ≤ length xs → reverse (opened xs n) ≡ take n xs
 outermost_first xs zero h = refl

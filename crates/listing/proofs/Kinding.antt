@@ -7,6 +7,7 @@ use native.Mathlib.Omega.{arith}
 use native.Mathlib.Numerals.{add-one}
 use lib.ListN.{length, get_or, drop, length-append, length-map, drop_of_length-le, get_or-map}
 use lib.Seq.{drop-cons}
+use Rattle.numbers.specs.Placed.{Puts}
 use Rattle.lanes.specs.declared.said.Fault.{Fault}
 use Rattle.body.specs.Body.{set_bytes, parts_at, no_fault}
 use Rattle.body.specs.Layout.{kind_lists, most_kinds, is_body}
@@ -17,7 +18,7 @@ use Rattle.listing.specs.Text.{space, comma, kinds_text}
 use Rattle.listing.proofs.Places.{field_long}
 use Rattle.listing.specs.Writing.{Wrote}
 use Rattle.listing.specs.declared.writer.Writer.{Writer}
-use Rattle.listing.proofs.Putting.{Left, left_start, left_turn, left_end}
+use Rattle.listing.proofs.Putting.{puts_near, Left, left_start, left_turn, left_end}
 
 -- the kinds of a body: some, and not too many
 abbrev pub kinds_of : List ℕ → List ℕ
@@ -48,6 +49,9 @@ kinds_long (k ∷ l ∷ ks) = omega (arith, field_long k comma, kinds_long (l �
 
 pub kinds_short : (b : List ℕ) → is_body b ≡ true → length (kinds_text (kinds_of b)) ≤ kinds_bytes
 kinds_short b e = omega (arith, (kinds_few b e).1, length-kinds b, kinds_long (kinds_of b))
+
+pub kinds_near : {o o1 : List ℕ} {at r : ℕ} (b : List ℕ) → is_body b ≡ true → Puts o at (kinds_text (kinds_of b)) r o1 → r ≤ at + kinds_bytes
+kinds_near b e = puts_near kinds_bytes (kinds_short b e)
 
 -- ---- turns of the loop, in which kind k of a body comes next
 

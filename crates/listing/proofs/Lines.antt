@@ -1,30 +1,32 @@
 -- The lines of the listing, from what the code reads of a body, and the loops over the records: what is left, put behind, gives all.
 use mathlib.Core.Path.{◌≡◌, refl, ap, ◌∙◌}
-use Prim.Native.Nat.{ℕ, ◌+◌, ◌*◌, ◌≤◌, ◌<◌}
+use Prim.Native.Nat.{ℕ, ◌+◌, ◌*◌, ◌-◌, ◌≤◌, ◌<◌}
 use mathlib.Core.Bool.{true, false, cond}
-use mathlib.Core.List.{List, [], ◌∷◌, ◌++◌}
+use mathlib.Core.List.{List, [], ◌∷◌, ◌++◌, append_assoc}
 use native.Mathlib.Omega.{arith}
 use native.Mathlib.Numerals.{add-one}
 use lib.Dec.{eqb}
-use lib.ListN.{length, get_or, drop, length-append, drop_of_length-le}
+use lib.ListN.{length, get_or, take, drop, length-append, drop_of_length-le}
 use lib.Seq.{drop-cons}
 use borrow.Author.Tests.{eq-eqb, ne_eqb}
 use Rattle.ground.specs.Tests.{all_of}
+use Rattle.numbers.specs.Placed.{Puts}
+use Rattle.numbers.proofs.Placing.{puts_join}
 use Rattle.body.specs.Body.{parts_at}
 use Rattle.body.specs.Layout.{is_body}
-use Rattle.dayfile.specs.Day.{most_records, page, count_of, bodies_of}
+use Rattle.dayfile.specs.Day.{most_records, page, count_of, place_of, length_of, bodies_of}
 use Rattle.dayfile.proofs.Layouts.{page_lawful}
 use Rattle.dayfile.proofs.Lists.{all_first, all_rest, count_bodies}
 use Rattle.records.specs.Read.{refusal_of, firsts_of}
 use Rattle.records.proofs.Accepted.{accepted_listed}
-use Rattle.records.proofs.Records.{length_firsts}
+use Rattle.records.proofs.Records.{record_here, body_here, body_whole, length_firsts}
 use Rattle.listing.specs.Decimal.{field}
 use Rattle.listing.specs.Rooms.{line_bytes}
 use Rattle.listing.specs.Text.{space, newline, kinds_text, line, lines, distinct}
 use Rattle.listing.proofs.Places.{field_long}
 use Rattle.listing.specs.Writing.{Wrote}
 use Rattle.listing.specs.declared.writer.Writer.{Writer}
-use Rattle.listing.proofs.Putting.{wrote_join, wrote_same, Left, left_turn, left_end}
+use Rattle.listing.proofs.Putting.{wrote_join, wrote_same, puts_near, Left, left_turn, left_end}
 use Rattle.listing.proofs.Kinding.{kinds_of, kinds_short}
 
 -- ---- a line
@@ -36,6 +38,14 @@ pub line_wrote : {o p q r s t u : Writer} {kernel place d : ℕ} (i first : ℕ)
 unfolding line
 line_wrote i first b ek ep ed one two three four kinds last =
     wrote_same (rw (ek, ep, ed) refl) (wrote_join one (wrote_join two (wrote_join three (wrote_join four (wrote_join kinds last)))))
+
+pub line_puts : {o o1 o2 o3 o4 : List ℕ} {at q1 q2 q3 r kernel place d : ℕ} (i first : ℕ) (b : List ℕ)
+    → kernel ≡ (parts_at b).kernel → place ≡ (parts_at b).place → d ≡ length (parts_at b).blocks
+    → Puts o at (field i space ++ field first space) q1 o1 → Puts o1 q1 (field kernel space ++ field place space) q2 o2
+    → Puts o2 q2 (kinds_text (kinds_of b)) q3 o3 → Puts o3 q3 (field d newline) r o4 → Puts o at (line i first (parts_at b)) r o4
+unfolding line
+line_puts i first b ek ep ed one two kinds last =
+    rw (← ek, ← ep, ← ed) (simp append_assoc at (puts_join one (puts_join two (puts_join kinds last))))
 
 line_long : (i first : ℕ) (b : List ℕ) → is_body b ≡ true → length (line i first (parts_at b)) ≤ line_bytes
 unfolding line
@@ -73,12 +83,28 @@ module _ (fs : List ℕ) (bs : List (List ℕ)) {o m : Writer} {k : ℕ} (g : Le
 
 -- ---- the records of an accepted file
 
+-- the m bytes from a on, as the code cuts them out, are record k + 1
+pub record Cut (f : List ℕ) (k a m : ℕ) : Type 0 where
+  pub few : k < length (bodies_of page f)
+  pub inside : a + m ≤ length f
+  pub same : take (a + m - a) (drop a f) ≡ get_or (bodies_of page f) k []
+  pub whole : is_body (take (a + m - a) (drop a f)) ≡ true
+
 module _ (f fs : List ℕ) (ok : refusal_of page f ≡ 0) (e : fs ≡ firsts_of (bodies_of page f)) where
   pub listed_count : length fs ≡ count_of f
   listed_count = ap length e ∙ length_firsts (bodies_of page f) ∙ count_bodies page f
 
   pub listed_few : length fs ≤ most_records
   listed_few = omega (arith, listed_count, count_bodies page f, (accepted_listed page_lawful f ok).few)
+
+  pub listed_near : {o o1 : List ℕ} {at r : ℕ} → Puts o at (lines 1 fs (bodies_of page f)) r o1 → r ≤ at + line_bytes * length fs
+  listed_near = puts_near (line_bytes * length fs) (lines_long 1 fs (bodies_of page f) (accepted_listed page_lawful f ok).each)
+
+  pub listed_cut : {k a m : ℕ} → k < length fs → a ≡ place_of f k → m ≡ length_of f k → Cut f k a m
+  listed_cut {k} {a} {m} h ea em =
+      let n : k < count_of f = omega (arith, listed_count) in
+      let r = record_here page_lawful f ok n ea em in
+      record { few = r.counted; inside = r.inside; same = body_here page_lawful f ok n ea em; whole = body_whole f ok n ea em }
 
 -- ---- turns of the loop that counts
 

@@ -60,7 +60,7 @@ ten_more i zero = rw add-zero (omega arith)
 ten_more i (suc d) = let h = ten_more i d in let e : 10 ^ (i + suc d) ≡ 10 ^ (i + d) * 10 = rw add-suc (pow-suc 10 (i + d)) in omega arith
 
 -- a number of 64 bits has at most 20 digits
-fewest_most : (n k : ℕ) → IsDigitCount 10 1 n k → n < 18446744073709551616 → k ≤ most_places
+pub fewest_most : (n k : ℕ) → IsDigitCount 10 1 n k → n < 18446744073709551616 → k ≤ most_places
 fewest_most n k h l =
     ⊎_elim
     (λ (a : ltb most_places k ≡ true).

@@ -12,7 +12,8 @@ use Rattle.std.specs.Prelude.{Result, Ok, Err}
 use Rattle.refusals.specs.declared.Refusal.{Refusal}
 use Rattle.ground.specs.Tests.{all_of}
 use Rattle.ground.proofs.Choices.{cond_by}
-use Rattle.numbers.proofs.Placing.{placed_front, length-placed}
+use Rattle.numbers.specs.Placed.{Puts}
+use Rattle.numbers.proofs.Placing.{placed_front, length-placed, puts_join}
 use Rattle.body.specs.Layout.{is_body}
 use Rattle.dayfile.specs.Day.{most_records, page, count_of, bodies_of}
 use Rattle.dayfile.proofs.Layouts.{page_lawful}
@@ -41,6 +42,16 @@ pub table_wrote : {o p q r : Writer} {d : ℕ} (fs : List ℕ) (bs : List (List 
     → Wrote (lines 1 fs bs) p q → Wrote (total_line (length fs) d) q r → Wrote (table_text fs bs) o r
 unfolding table_text
 table_wrote fs bs e a b c = wrote_join a (wrote_join b (wrote_same (ap (total_line (length fs)) e) c))
+
+pub total_puts : {o o1 o2 o3 o4 : List ℕ} {at q1 q2 q3 r : ℕ} (n d : ℕ) → Puts o at total_text q1 o1 → Puts o1 q1 (field n space) q2 o2
+    → Puts o2 q2 distinct_text q3 o3 → Puts o3 q3 (field d newline) r o4 → Puts o at (total_line n d) r o4
+unfolding total_line
+total_puts n d a b c e = puts_join a (puts_join b (puts_join c e))
+
+pub table_puts : {o o1 o2 o3 : List ℕ} {at q1 q2 r d : ℕ} (fs : List ℕ) (bs : List (List ℕ)) → d ≡ distinct 1 fs → Puts o at head_text q1 o1
+    → Puts o1 q1 (lines 1 fs bs) q2 o2 → Puts o2 q2 (total_line (length fs) d) r o3 → Puts o at (table_text fs bs) r o3
+unfolding table_text
+table_puts fs bs e a b c = rw (← e) (puts_join a (puts_join b c))
 
 total_long : (n d : ℕ) → length (total_line n d) ≤ total_bytes
 unfolding total_line
@@ -86,17 +97,17 @@ pub record Counted (f : List ℕ) (n : ℕ) (out : List ℕ) : Type 0 where
   pub within : n ≤ length out
   pub firsts : take n out ≡ firsts_of (bodies_of page f)
 
+fits : (f o : List ℕ) → length o ≡ most_records → refusal_of page f ≡ 0 → count_of f ≤ length o
+fits f o room h = omega (arith, (file_room page_lawful f h).0)
+
 module _ (f o : List ℕ) {out : List ℕ} {r : Result ℕ Refusal} (ok : refusal_of page f ≡ 0) (room : length o ≡ most_records)
     (e : counted r out ≡ firsts_in page f o) where
-  fits : refusal_of page f ≡ 0 → count_of f ≤ length o
-  fits h = omega (arith, (file_room page_lawful f h).0)
-
   pub firsts_counted : (n : ℕ) → r ≡ Ok n → Counted f n out
   firsts_counted n h =
-      let c = firsts_say page f o fits (ap (λ (a : Result ℕ Refusal). counted a out) (sym h) ∙ e) in
+      let c = firsts_say page f o (fits f o room) (ap (λ (a : Result ℕ Refusal). counted a out) (sym h) ∙ e) in
       let fs = firsts_of (bodies_of page f) in
       let l : length fs ≡ count_of f = length_firsts (bodies_of page f) ∙ count_bodies page f in
-      let k = fits ok in
+      let k = fits f o room ok in
       let en = c.1 in
       record {
         within = omega (arith, ap length c.2, length-placed o 0 fs);
@@ -104,4 +115,13 @@ module _ (f o : List ℕ) {out : List ℕ} {r : Result ℕ Refusal} (ok : refusa
       }
 
   pub never_refused : (x : Refusal) → r ≡ Err x → ⊥
-  never_refused x h = (firsts_say page f o fits (ap (λ (a : Result ℕ Refusal). counted a out) (sym h) ∙ e)).0 ok
+  never_refused x h = (firsts_say page f o (fits f o room) (ap (λ (a : Result ℕ Refusal). counted a out) (sym h) ∙ e)).0 ok
+
+-- ---- and of any file
+
+module _ (f o out : List ℕ) (r : Result ℕ Refusal) (room : length o ≡ most_records) (e : counted r out ≡ firsts_in page f o) where
+  pub counted_accepted : (n : ℕ) → r ≡ Ok n → refusal_of page f ≡ 0
+  counted_accepted n h = (firsts_say page f o (fits f o room) (ap (λ (a : Result ℕ Refusal). counted a out) (sym h) ∙ e)).0
+
+  pub firsts_not : (x : Refusal) → r ≡ Err x → (refusal_of page f ≡ 0 → ⊥) × (x.number ≡ refusal_of page f)
+  firsts_not x h = firsts_say page f o (fits f o room) (ap (λ (a : Result ℕ Refusal). counted a out) (sym h) ∙ e)

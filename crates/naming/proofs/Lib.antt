@@ -1,4 +1,5 @@
 pub mod Adding
+pub mod Leading
 pub mod Digits
 pub mod Parts
 pub mod Whole

@@ -30,7 +30,7 @@ pub on_adds : {o m n : List ℕ} {mark : List ℕ} (p : ℕ) (b : Bool) → (p �
 on_adds zero b h e x y = absurd (h refl)
 on_adds (suc p) b h e x y = adds_join (adds_same e x) y
 
-operands_then : (ps : List Item) (i : Instr) (t : List ℕ) → operands ps i [] ++ t ≡ operands ps i t
+pub operands_then : (ps : List Item) (i : Instr) (t : List ℕ) → operands ps i [] ++ t ≡ operands ps i t
 unfolding operands
 operands_then [] i t = refl
 operands_then (Item.mark m ∷ ps) i t = append_assoc m (operands ps i []) t ∙ ap (λ (l : List ℕ). m ++ l) (operands_then ps i t)

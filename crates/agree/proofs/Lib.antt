@@ -1,0 +1,2 @@
+-- Laws of the rooms of this program.
+pub mod Rooms
