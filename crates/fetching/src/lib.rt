@@ -49,6 +49,7 @@ fn op_in(first: u32) -> Option<Op>
 }
 
 // What the words at a place say. NOP where no word stands, or none that names an operation.
+#[tactic(auto, using(crate::proofs::Fetches::fetch_past, crate::proofs::Fetches::fetch_missing, crate::proofs::Fetches::fetch_carried))]
 pub fn fetch_at(words: &[u32], at: usize) -> Fetched
     ensures { result ≡ fetch_at words.now at }
 {

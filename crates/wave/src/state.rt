@@ -48,6 +48,7 @@ pub fn depth_of(depth: u32) -> u32
 }
 
 // The blocks past the open ones become zeros, and a depth over 32 becomes 32, so that every number of the state is fixed by its wave.
+#[tactic(auto, using(crate::proofs::Tidying::tidy_end))]
 pub fn tidy(h: Hot, blocks: &mut [Block; DEEPEST]) -> Hot
     ensures { held result blocks.new ≡ tidied h blocks.old }
 {

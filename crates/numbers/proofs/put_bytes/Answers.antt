@@ -1,13 +1,18 @@
--- What there is room for, put where there is such a place, is all that is put.
-use mathlib.Core.Path.{ap, ◌∙◌}
-use mathlib.Core.List.{List}
-use Prim.Native.Nat.{ℕ, ◌+◌, ◌-◌}
-use borrow.Rule.Slice.PartMut.{put_mid}
-use Rattle.numbers.proofs.Placing.{placed_fit}
+-- Turn by turn one byte less is left, and none where the bytes or the room end.
+use mathlib.Core.Path.{◌∙◌}
+use native.Mathlib.Omega.{arith}
+use Rattle.numbers.proofs.Placing.{placed_from, placed_next, placed_room_end}
 use Rattle.numbers.proofs.put_bytes.Goals as goal
+
+pub loop-k-init : goal.loop-k-init
+loop-k-init c = placed_from _ _ _ _ c.min-start.ensures
+
+pub loop-k-preserved : goal.loop-k-preserved
+loop-k-preserved c =
+    let l = c.loop-k in
+    placed_next l.out c.args.bytes.now c.min-start.result l.k (omega (arith, c.min-count.ensures, c.loop-k-test.true)) ∙ l.invariant
 
 pub returns : goal.returns
 returns c =
-    let start = c.min-start.result in
-    ap (λ (part : List ℕ). put_mid start (start + c.min-count.result - start) c.args.out.now part) c.copy_from_slice.ensures.after
-    ∙ placed_fit _ _ _ _ _ c.min-start.ensures c.min-count.ensures
+    let l = c.loop-k in
+    placed_room_end l.out c.args.bytes.now c.min-start.result l.k (omega (arith, c.min-count.ensures, c.loop-k-test.false, l.auto.out)) ∙ l.invariant
