@@ -2,10 +2,6 @@
 use mathlib.Core.Path.{◌≡◌, refl, sym, ap₂, ◌∙◌}
 use mathlib.Core.Bool.{true}
 use mathlib.Core.List.{List, [], ◌∷◌, ◌++◌, append-nil, flat_map}
-use native.Mathlib.Omega.{arith}
-use lib.ListN.{length, take}
-use lib.Seq.{length-take-le, take_all}
-use Rattle.std.proofs.lemmas.List.{take_more}
 use Prim.Native.Nat.{ℕ}
 use Rattle.ground.specs.Tests.{all_of}
 use Rattle.ground.proofs.Bools.{and_both}
