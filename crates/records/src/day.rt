@@ -74,7 +74,8 @@ impl<'a> DayFile<'a> {
     {
         let body = self.body_at(i);
         for k in 0..i {
-            if same_bytes(self.body_at(k).bytes, body.bytes) {
+            let earlier = self.body_at(k);
+            if same_bytes(earlier.bytes, body.bytes) {
                 return k + 1;
             }
         }

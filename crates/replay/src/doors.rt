@@ -31,6 +31,7 @@ fn refused(refusal: Refusal, state: State) -> Replayed
 
 // A kernel from its start. Refusals 1 to 10 change nothing lent and return place 0, empty sets and no block; otherwise local memory was
 // filled, whatever came after.
+#[tactic(auto, using(crate::proofs::Entering::refused_by, crate::proofs::Entering::run_by, crate::proofs::Entering::launched_run), unfolding(crate::specs::Replay::launch_of))]
 pub fn launch(
     settings: Settings,
     code: &[u32],

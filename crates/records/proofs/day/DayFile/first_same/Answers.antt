@@ -11,12 +11,12 @@ loop-k-init c = seeking_start
 
 pub returns-then-same_bytes : goal.returns-then-same_bytes
 returns-then-same_bytes c =
-    seeking_here c.loop-k.invariant (compared c.same_bytes.ensures c.body_at.ensures c.body_at-body.ensures c.if-same_bytes.true)
+    seeking_here c.loop-k.invariant (compared c.same_bytes.ensures c.body_at-earlier.ensures c.body_at-body.ensures c.if-same_bytes.true)
     (omega (arith, count_bodies page c.args.self.now.bytes.now))
 
 pub loop-k-preserved : goal.loop-k-preserved
 loop-k-preserved c =
-    seeking_turn c.loop-k.invariant (compared c.same_bytes.ensures c.body_at.ensures c.body_at-body.ensures c.if-same_bytes.false) c.loop-k-test.true
+    seeking_turn c.loop-k.invariant (compared c.same_bytes.ensures c.body_at-earlier.ensures c.body_at-body.ensures c.if-same_bytes.false) c.loop-k-test.true
     (omega (arith, count_bodies page c.args.self.now.bytes.now))
 
 pub overflow_add-result-2 : goal.overflow_add-result-2
