@@ -1,12 +1,12 @@
 -- Text added to a line, as far as it fits: bytes put behind those that stand there, and texts one behind another.
 use mathlib.Core.Path.{◌≡◌, refl, sym, ap, ◌∙◌}
-use mathlib.Core.List.{List, [], ◌∷◌, ◌++◌, append_assoc}
-use Prim.Native.Nat.{ℕ, zero, suc, ◌+◌, ◌-◌, ◌≤◌, min}
+use mathlib.Core.List.{List, [], ◌∷◌, ◌++◌, append_assoc, append-nil}
+use Prim.Native.Nat.{ℕ, zero, suc, ◌+◌, ◌-◌, ◌≤◌, ◌<◌, min}
 use native.Mathlib.Omega.{arith}
-use lib.ListN.{length, take, length-append}
-use lib.Seq.{take-append-add, take_at, length-take-le}
+use lib.ListN.{length, get_or, take, set}
+use lib.Seq.{take-append-add, take_at, take-length, length-take-le}
 use borrow.Rule.Slice.PartMut.{put_mid, post_of}
-use Rattle.std.proofs.lemmas.List.{take-take, take_min}
+use Rattle.std.proofs.lemmas.List.{length-take, take_more, take_more_set}
 use Rattle.texts.specs.Text.{text_room}
 use Rattle.naming.specs.Line.{Adds}
 
@@ -51,3 +51,24 @@ put_adds bytes text mid start end l h e m =
           ∙ ap (λ (t : List ℕ). p ++ t) (take-take room room text (omega arith))
           ∙ sym cut;
     }
+
+-- a byte put behind the `start` that stand there
+pub byte_adds : (bytes : List ℕ) (x start : ℕ) → start < length bytes → Adds (take start bytes) (x ∷ []) (take (start + 1) (set bytes start x))
+byte_adds bytes x start h = record { holds = ap (take text_room) (take_more_set bytes start x h) }
+
+-- a full line takes none
+pub full_adds : (bytes : List ℕ) (x start : ℕ) → length bytes ≡ text_room → text_room ≤ start → Adds (take start bytes) (x ∷ []) (take start bytes)
+full_adds bytes x start l h =
+    let p = take start bytes in
+    let n : length p ≡ text_room = length-take start bytes ∙ omega (arith, l) in
+    record { holds = ap (λ (k : ℕ). take k p) (sym n) ∙ take-length p ∙ sym (take_at p (x ∷ []) text_room n) }
+
+-- nothing added, a byte more, and all
+pub adds_none : {o : List ℕ} → Adds o [] o
+adds_none {o} = record { holds = ap (take text_room) (sym (append-nil o)) }
+
+pub adds_on : {o m n : List ℕ} (bs : List ℕ) (k : ℕ) → k < length bs → Adds o (take k bs) m → Adds m (get_or bs k 0 ∷ []) n → Adds o (take (k + 1) bs) n
+adds_on bs k h a b = adds_same (sym (take_more bs k 0 h)) (adds_join a b)
+
+pub adds_all : {o n : List ℕ} (bs : List ℕ) (k : ℕ) → length bs ≤ k → k ≤ length bs → Adds o (take k bs) n → Adds o bs n
+adds_all bs k h g a = let e : k ≡ length bs = omega arith in adds_same (ap (λ (j : ℕ). take j bs) e ∙ take-length bs) a

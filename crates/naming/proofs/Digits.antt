@@ -76,3 +76,10 @@ decimal_is n k o h e l d =
 pub hex_is : {t : List ℕ} (n : ℕ) → hex_from ≤ n → t ≡ digits 16 8 n → ascii "0x" ++ t ≡ numeral n
 unfolding numeral
 hex_is n h d = rw (le-ltb n hex_from h, d)
+
+-- one digit
+pub digit_is : (n : ℕ) → n < 10 → get_or (ascii "0123456789ABCDEF") n 0 ∷ [] ≡ numeral n
+unfolding numeral places digits
+digit_is n h =
+    let m : n % 10 ≡ n = omega arith in
+    rw (lt-ltb n hex_from (omega arith), lt-ltb n 10 h, m) (ap (λ (d : ℕ). d ∷ []) (glyph_at n (omega arith)))

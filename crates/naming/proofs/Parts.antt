@@ -21,14 +21,14 @@ pub parts_on : {o m n : List ℕ} (ps : List Part) (k : ℕ) (d : Part) → k < 
 parts_on ps k d h a b =
     adds_same (flat_map_more part_text [] (take k ps) (get_or ps k d) ∙ ap parts_text (sym (take_more ps k d h))) (adds_join a b)
 
-pub scope_adds : {o m n : List ℕ} (s : ℕ) → (s ≡ 0 → ⊥) → Adds o (ascii " scope ") m → Adds m (numeral s) n → Adds o (scope_text s) n
-scope_adds zero h a b = absurd (h refl)
-scope_adds (suc s) h a b = adds_join a b
+pub scope_adds : {o n : List ℕ} (s : ℕ) → (s ≡ 0 → ⊥) → Adds o (ascii " scope " ++ numeral s) n → Adds o (scope_text s) n
+scope_adds zero h a = absurd (h refl)
+scope_adds (suc s) h a = a
 
-pub on_adds : {o m n : List ℕ} {mark : List ℕ} (p : ℕ) (b : Bool) → (p ≡ 0 → ⊥) → mark ≡ cond b (ascii " on not p") (ascii " on p") → Adds o mark m
-    → Adds m (numeral p) n → Adds o (on_text p b) n
-on_adds zero b h e x y = absurd (h refl)
-on_adds (suc p) b h e x y = adds_join (adds_same e x) y
+pub on_adds : {o n : List ℕ} {mark : List ℕ} (p : ℕ) (b : Bool) → (p ≡ 0 → ⊥) → mark ≡ cond b (ascii " on not p") (ascii " on p")
+    → Adds o (mark ++ numeral p) n → Adds o (on_text p b) n
+on_adds zero b h e a = absurd (h refl)
+on_adds (suc p) b h e a = adds_same (ap (λ (m : List ℕ). m ++ numeral (suc p)) e) a
 
 pub operands_then : (ps : List Item) (i : Instr) (t : List ℕ) → operands ps i [] ++ t ≡ operands ps i t
 unfolding operands

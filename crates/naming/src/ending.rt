@@ -12,8 +12,7 @@ pub(crate) fn put_scope(line: &mut Line, scope: u8)
     ensures { Adds line.old (scope_text scope) line.new }
 {
     if scope != 0 {
-        line.put(" scope ");
-        line.put_number(scope as u32);
+        line.put_numbered(" scope ", scope as u32);
     }
 }
 
@@ -29,7 +28,6 @@ pub(crate) fn put_guard(line: &mut Line, guard: Guard)
     ensures { Adds line.old (on_text guard.pred guard.negate) line.new }
 {
     if guard.pred != 0 {
-        line.put(on_mark(guard.negate));
-        line.put_number(guard.pred as u32);
+        line.put_numbered(on_mark(guard.negate), guard.pred as u32);
     }
 }

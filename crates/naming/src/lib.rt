@@ -25,16 +25,15 @@ use refusals::{Refusal, Rule, broken};
 // A buffer of this length holds every text.
 pub const TEXT_ROOM: usize = 48;
 
-// The text of an instruction, as far as it fits a line.
-fn line_of(instr: Instr) -> Line
-    ensures { Adds [] (text_of instr) result }
+// Puts the text of an instruction, as far as it fits the line. The line is lent: one that is handed out is copied, which waits for its bytes to
+// be written.
+fn put_line(line: &mut Line, instr: Instr)
+    ensures { Adds line.old (text_of instr) line.new }
 {
-    let mut line = Line::new();
-    put_name(&mut line, instr.op);
-    put_operands(&mut line, instr);
-    put_scope(&mut line, instr.scope);
-    put_guard(&mut line, instr.guard);
-    line
+    put_name(line, instr.op);
+    put_operands(line, instr);
+    put_scope(line, instr.scope);
+    put_guard(line, instr.guard);
 }
 
 // Puts a text at the start of `out`, if it has room, and answers its length.
@@ -56,6 +55,7 @@ pub fn write_text(instr: Instr, out: &mut [u8]) -> Result<usize, Refusal>
     if !is_valid(instr) {
         return Err(broken(Rule::NoWords, 0));
     }
-    let line = line_of(instr);
+    let mut line = Line::new();
+    put_line(&mut line, instr);
     put_whole(line.as_bytes(), out)
 }

@@ -1,11 +1,11 @@
 // A line of text, of at most 48 bytes.
-ghost use Rattle.std.specs.Prelude.{◌≡◌, ◌≤◌, [], length};
+ghost use Rattle.std.specs.Prelude.{◌≡◌, ◌≤◌, ◌++◌, [], length};
 ghost use Rattle.texts.specs.Text.{text_room};
 ghost use Rattle.texts.specs.Numerals.{numeral};
 ghost use Rattle.naming.specs.Line.{Adds};
 
 use crate::TEXT_ROOM;
-use crate::numerals::{HEX_FROM, places_of, put_digits};
+use crate::numerals::{GLYPHS, HEX_FROM, places_of, put_digits};
 use std::marker::Model;
 
 // The first `length` of `bytes` are the text. What is put past the room is left off.
@@ -45,13 +45,18 @@ impl Line {
         &self.bytes[..self.length]
     }
 
-    // Adds bytes, as far as they fit.
+    // Adds bytes, as far as they fit. One by one, with the length in a local variable: a piece of a text is a few bytes, so a call that copies
+    // it costs more than it saves, and a length that is stored at each byte has to be read again at the next.
     fn put_bytes(&mut self, text: &[u8])
         ensures { Adds self.old text.now self.new }
     {
-        let start = self.length;
-        let end = TEXT_ROOM.min(start + text.len());
-        self.bytes[start..end].copy_from_slice(&text[..end - start]);
+        let mut end = self.length;
+        for byte in text {
+            if end < TEXT_ROOM {
+                self.bytes[end] = *byte;
+                end += 1;
+            }
+        }
         self.length = end;
     }
 
@@ -63,18 +68,31 @@ impl Line {
     }
 
     // Adds a number, as far as it fits: decimal up to seven digits, else `0x` and eight hexadecimal digits.
-    pub(crate) fn put_number(&mut self, n: u32)
+    fn put_number(&mut self, n: u32)
         ensures { Adds self.old (numeral n) self.new }
     {
+        // One digit, the most usual number, needs no buffer.
+        if n < 10 {
+            self.put_bytes(&[GLYPHS[n as usize]]);
+            return;
+        }
         let mut digits = [0; 8];
         if n < HEX_FROM {
             let decimal = &mut digits[..places_of(n)];
-            put_digits(10, n, decimal);
+            put_digits::<10>(n, decimal);
             self.put_bytes(decimal);
         } else {
-            put_digits(16, n, &mut digits);
+            put_digits::<16>(n, &mut digits);
             self.put("0x");
             self.put_bytes(&digits);
         }
+    }
+
+    // Adds a text and a number behind it, as far as they fit. Most of a line is such pairs, and one call is cheaper than two.
+    pub(crate) fn put_numbered(&mut self, text: &str, n: u32)
+        ensures { Adds self.old (text.now ++ numeral n) self.new }
+    {
+        self.put(text);
+        self.put_number(n);
     }
 }

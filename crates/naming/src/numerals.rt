@@ -6,7 +6,7 @@ ghost use Rattle.texts.specs.Numerals.{digits, places, hex_from};
 pub(crate) const HEX_FROM: u32 = 10_000_000;
 
 // The digit of each number below 16.
-const GLYPHS: &[u8; 16] = b"0123456789ABCDEF";
+pub(crate) const GLYPHS: &[u8; 16] = b"0123456789ABCDEF";
 
 // How many decimal digits a number has.
 pub(crate) fn places_of(n: u32) -> usize
@@ -17,15 +17,16 @@ pub(crate) fn places_of(n: u32) -> usize
     n.max(1).ilog10() as usize + 1
 }
 
-// Fills a buffer with the last digits of a number in a base, the most significant first.
-pub(crate) fn put_digits(base: u32, n: u32, out: &mut [u8])
-    requires { (0 < base) × (base ≤ 16) }
-    ensures { out.new ≡ digits base (length out.old) n }
+// Fills a buffer with the last digits of a number in a base, the most significant first. The base is a constant: to divide by one is a
+// multiplication.
+pub(crate) fn put_digits<const BASE: u32>(n: u32, out: &mut [u8])
+    requires { (0 < BASE) × (BASE ≤ 16) }
+    ensures { out.new ≡ digits BASE (length out.old) n }
 {
     let mut left = n;
     // By index: over `iter_mut().rev()` the proof of what the buffer holds at each turn did not close.
     for i in (0..out.len()).rev() {
-        out[i] = GLYPHS[(left % base) as usize];
-        left /= base;
+        out[i] = GLYPHS[(left % BASE) as usize];
+        left /= BASE;
     }
 }

@@ -8,26 +8,13 @@ ghost use Rattle.naming.specs.Parts.{part_text, parts_text};
 use crate::line::Line;
 use instructions::instr::{Instr, Op};
 
-// A mark as it stands, or an operand: a register, a predicate, a special number or any number.
+// A mark as it stands, the name of a special number, or a number behind its mark.
 #[derive(Clone, Copy)]
 pub(crate) enum Part {
     Mark(&'static str),
-    Register(u8),
-    Predicate(u8),
     Special(u8),
-    Number(u32),
+    Number(&'static str, u32),
 }
-
-// The marks that stand before, between and behind operands.
-const SPACE: Part = Part::Mark(" ");
-
-const COMMA: Part = Part::Mark(", ");
-
-const OPEN: Part = Part::Mark(", [");
-
-const PLUS: Part = Part::Mark(" + ");
-
-const CLOSE: Part = Part::Mark("], ");
 
 // The name of a special number.
 fn special_name(n: u8) -> &'static str
@@ -47,16 +34,8 @@ fn put_part(line: &mut Line, part: Part)
 {
     match part {
         Part::Mark(mark) => line.put(mark),
-        Part::Register(n) => {
-            line.put("r");
-            line.put_number(n as u32);
-        }
-        Part::Predicate(n) => {
-            line.put("p");
-            line.put_number(n as u32);
-        }
         Part::Special(n) => line.put(special_name(n)),
-        Part::Number(n) => line.put_number(n),
+        Part::Number(mark, n) => line.put_numbered(mark, n),
     }
 }
 
@@ -69,29 +48,35 @@ fn put_parts(line: &mut Line, parts: &[Part])
     }
 }
 
-// Puts the operands, by the form of the operation.
+// Puts the operands, by the form of the operation. The mark before a number and the letter of its kind are one text.
 #[tactic(auto, unfolding(texts::specs::Text::operands))]
 pub(crate) fn put_operands(line: &mut Line, i: Instr)
     ensures { Adds line.old (operands (template i.op) i []) line.new }
 {
-    let rd = Part::Register(i.rd);
-    let rs1 = Part::Register(i.rs1);
-    let rs2 = Part::Register(i.rs2);
-    let rs3 = Part::Register(i.rs3);
-    let number = Part::Number(i.number);
+    let rd = Part::Number(" r", i.rd as u32);
+    let rs1 = Part::Number(", r", i.rs1 as u32);
+    let rs2 = Part::Number(", r", i.rs2 as u32);
+    let rs3 = Part::Number(", r", i.rs3 as u32);
+    let address = Part::Number(", [r", i.rs1 as u32);
+    let offset = Part::Number(" + ", i.number);
+    let past_address = Part::Number("], r", i.rs2 as u32);
     match i.op {
-        Op::Two(_) | Op::Shuffle => put_parts(line, &[SPACE, rd, COMMA, rs1, COMMA, rs2]),
-        Op::Compare(_) => put_parts(
+        Op::Two(_) | Op::Shuffle => put_parts(line, &[rd, rs1, rs2]),
+        Op::Compare(_) => put_parts(line, &[Part::Number(" p", i.rd as u32), rs1, rs2]),
+        Op::One(_) | Op::Wave(_) => put_parts(line, &[rd, rs1]),
+        Op::Special => put_parts(line, &[rd, Part::Mark(", "), Part::Special(i.rs1)]),
+        Op::Number => put_parts(line, &[rd, Part::Number(", ", i.number)]),
+        Op::Load(_) => put_parts(line, &[rd, address, offset, Part::Mark("]")]),
+        Op::Store(_) => put_parts(
             line,
-            &[SPACE, Part::Predicate(i.rd), COMMA, rs1, COMMA, rs2],
+            &[
+                Part::Number(" [r", i.rs1 as u32),
+                offset,
+                Part::Number("], r", i.rd as u32),
+            ],
         ),
-        Op::One(_) | Op::Wave(_) => put_parts(line, &[SPACE, rd, COMMA, rs1]),
-        Op::Special => put_parts(line, &[SPACE, rd, COMMA, Part::Special(i.rs1)]),
-        Op::Number => put_parts(line, &[SPACE, rd, COMMA, number]),
-        Op::Load(_) => put_parts(line, &[SPACE, rd, OPEN, rs1, PLUS, number, Part::Mark("]")]),
-        Op::Store(_) => put_parts(line, &[Part::Mark(" ["), rs1, PLUS, number, CLOSE, rd]),
-        Op::Atomic(_) => put_parts(line, &[SPACE, rd, OPEN, rs1, CLOSE, rs2]),
-        Op::Cas => put_parts(line, &[SPACE, rd, OPEN, rs1, CLOSE, rs2, COMMA, rs3]),
+        Op::Atomic(_) => put_parts(line, &[rd, address, past_address]),
+        Op::Cas => put_parts(line, &[rd, address, past_address, rs3]),
         Op::Control(_) => {}
     }
 }

@@ -7,4 +7,5 @@ use Rattle.naming.proofs.write_text.Goals as goal
 pub returns : goal.returns
 returns c =
     let ok = sym c.is_valid.ensures ∙ c.if-not-is_valid.false in
-    put_text c.args.instr _ ok (omega arith) c.as_bytes.ensures.few (rw (← c.as_bytes.ensures.text) at c.line_of-line.ensures) c.put_whole.ensures
+    let adds = rw c.new-line.ensures at (rw (← c.as_bytes.ensures.text) at c.put_line.ensures) in
+    put_text c.args.instr _ ok (omega arith) c.as_bytes.ensures.few adds c.put_whole.ensures

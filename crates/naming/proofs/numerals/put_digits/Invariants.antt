@@ -6,4 +6,4 @@ use Rattle.texts.specs.Numerals.{digits}
 use Rattle.naming.proofs.numerals.put_digits.Given as goal
 
 abbrev pub invariant-loop-i : goal.invariant-loop-i
-invariant-loop-i l = digits l.base l.i l.left ++ drop l.i l.out ≡ digits l.base (length l.initial.out) l.n
+invariant-loop-i g l = digits g.row.BASE l.i l.left ++ drop l.i l.out ≡ digits g.row.BASE (length l.initial.out) l.n
