@@ -6,7 +6,7 @@ use native.Mathlib.Omega.{arith}
 use lib.ListN.{length, get_or, take, set}
 use lib.Seq.{take-append-add, take_at, take-length, length-take-le}
 use borrow.Rule.Slice.PartMut.{put_mid, post_of}
-use Rattle.std.proofs.lemmas.List.{length-take, take_more, take_more_set}
+use Rattle.std.proofs.lemmas.List.{length-take, take_more, take_more_set, take-take, take_min}
 use Rattle.texts.specs.Text.{text_room}
 use Rattle.naming.specs.Line.{Adds}
 
